@@ -1,0 +1,4 @@
+pub mod Codes
+pub mod Layout
+pub mod Reading
+pub mod Frames

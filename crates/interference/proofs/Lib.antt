@@ -1,0 +1,4 @@
+mod Graphs
+mod Planes
+pub mod Rules
+mod Words

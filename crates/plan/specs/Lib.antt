@@ -1,0 +1,5 @@
+pub mod Approval
+pub mod Drafts
+pub mod Faults
+pub mod Plans
+pub mod Spacing

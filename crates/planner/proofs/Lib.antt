@@ -1,0 +1,5 @@
+mod Bounds
+mod Plans
+mod Readiness
+mod Steps
+pub mod Used

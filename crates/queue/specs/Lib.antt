@@ -1,0 +1,3 @@
+pub mod Heap
+pub mod Order
+pub mod Ranked

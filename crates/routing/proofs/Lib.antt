@@ -1,0 +1,3 @@
+mod Outcomes
+pub mod Searches
+pub mod Trees
