@@ -37,6 +37,8 @@ FILES = {
     "refused/32-first": [[2, 0]],
     "refused/33-before": [[2, 0, 1], [1, 2], [3, 1, 0, 1]],
     "refused/33-empty": [],
+    # one byte more than a day file may have; the unknown kind would be refused too, and comes later
+    "refused/36": [[0] * 16385],
     "refused/33-query-first": [[4, 1, 10, 0, 10, 0], [1, 1]],
     "refused/33-twice": [[1, 2], [3, 1, 0, 1], [1, 2]],
 }

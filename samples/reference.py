@@ -10,6 +10,7 @@ import sys
 BASE = 0
 MOST_NODES = 64
 MOST_SLOTS = 4
+MOST_BYTES = 16384
 
 # bytes of a record by its kind, the kind byte among them
 SIZE = {1: 2, 2: 3, 3: 4, 4: 6, 5: 5, 6: 5, 7: 3}
@@ -25,6 +26,7 @@ TEXT = {
     31: "a record of unknown kind",
     32: "a record is cut short",
     33: "records in the wrong order",
+    36: "the file is longer than 16384 bytes",
 }
 
 
@@ -43,6 +45,8 @@ class Refused(Exception):
 
 def read_survey(data):
     """The node count, the edges and the tree records of a day file, up to its first record of kind 4 to 7."""
+    if len(data) > MOST_BYTES:
+        raise Refused(36, "byte 0")
     nodes = None
     edges = []
     tree = []

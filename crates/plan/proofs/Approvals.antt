@@ -27,11 +27,11 @@ use Rattle.std.specs.declared.option.Option.the-variants.{Some, None}
 use Rattle.std.specs.declared.result.Result.the-variants.{Ok}
 
 -- where a chain of tests finds nothing, no test does
-neither : {X : Type 0} (a b : Option X) → orElse a b ≡ None → (a ≡ None) × (b ≡ None)
+pub neither : {X : Type 0} (a b : Option X) → orElse a b ≡ None → (a ≡ None) × (b ≡ None)
 neither None b e = (refl, e)
 neither (Some x) b e = let z : _≡_ {A = ℕ} 0 1 = cc in absurd (omega arith)
 
-unmapped : {X Y : Type 0} (f : X → Y) (o : Option X) → mapped f o ≡ None → o ≡ None
+pub unmapped : {X Y : Type 0} (f : X → Y) (o : Option X) → mapped f o ≡ None → o ≡ None
 unmapped f None e = refl
 unmapped f (Some x) e = let z : _≡_ {A = ℕ} 0 1 = cc in absurd (omega arith)
 

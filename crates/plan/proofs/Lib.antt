@@ -1,6 +1,6 @@
-mod Approvals
+pub mod Approvals
 mod Bridges
-mod Faulty
+pub mod Faulty
 mod Judgement
 mod Layouts
 mod Marks

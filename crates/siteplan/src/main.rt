@@ -6,10 +6,8 @@ mod survey;
 
 use interference::graph::GraphInterference;
 use interference::graph::GraphModel;
-use interference::transmission::Transmission;
 use plan::approved::ApprovedPlan;
-use plan::draft::Draft;
-use planner::planner::plan as make_plan;
+use planning::make_plan;
 use report::Refusal;
 use report::print_plan;
 use report::print_refusal;
@@ -27,23 +25,10 @@ fn approved(survey: &Survey) -> Result<ApprovedPlan, Refusal> {
         Ok(model) => model,
         Err(fault) => return Err(Refusal::Model(fault)),
     };
-    let mut transmissions = [Transmission { from: 0, to: 0 }; 256];
-    let mut counts = [0u16; 256];
-    let tree = survey.tree.as_slice();
-    let size = match make_plan(&model, tree, &mut transmissions, &mut counts) {
-        Ok(size) => size,
-        Err(fault) => return Err(Refusal::Plan(fault)),
-    };
-    let sent = size.transmissions;
-    let steps = size.steps;
-    let draft = Draft {
-        transmissions: &transmissions[0..sent],
-        counts: &counts[0..steps],
-    };
     let mut plan = ApprovedPlan::new();
-    match plan.approve(tree, draft, &model) {
+    match make_plan(&mut plan, survey.tree.as_slice(), &model) {
         Ok(()) => Ok(plan),
-        Err(fault) => Err(Refusal::Approval(fault)),
+        Err(fault) => Err(Refusal::Tree(fault)),
     }
 }
 

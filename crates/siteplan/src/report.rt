@@ -1,21 +1,19 @@
 use crate::survey::SurveyFault;
+use dayfile::record::ReadFault;
 use interference::fault::ModelFault;
 use interference::transmission::Transmission;
 use plan::approved::ApprovedPlan;
-use plan::fault::ApprovalFault;
-use planner::fault::PlanFault;
 use routing::fault::TreeFault;
 use std::alloc::AllocError;
 use std::alloc::Global;
 use std::error::AnyError;
 
-/// Why there is no plan, whichever part of the work says so.
+/// Why there is no plan, whichever part of the work says so. A draft that the planner made is never refused.
 #[derive(Clone, Copy)]
 pub enum Refusal {
     Survey(SurveyFault),
     Model(ModelFault),
-    Plan(PlanFault),
-    Approval(ApprovalFault),
+    Tree(TreeFault),
 }
 
 /// A refusal in a surveyor's words: its number, what it means, and where it was found.
@@ -37,8 +35,8 @@ fn survey_reason(fault: SurveyFault) -> Reason {
         SurveyFault::Read(fault, offset) => Reason {
             code: fault.code(),
             meaning: match fault {
-                dayfile::record::ReadFault::UnknownKind => "a record of unknown kind",
-                dayfile::record::ReadFault::CutShort => "a record is cut short",
+                ReadFault::UnknownKind => "a record of unknown kind",
+                ReadFault::CutShort => "a record is cut short",
             },
             counted: "byte",
             place: Some(offset),
@@ -89,39 +87,11 @@ fn tree_reason(fault: TreeFault) -> Reason {
     }
 }
 
-fn approval_reason(fault: ApprovalFault) -> Reason {
-    let meaning = match fault {
-        ApprovalFault::Tree(fault) => return tree_reason(fault),
-        ApprovalFault::Shape => "the steps of the plan do not add up",
-        ApprovalFault::NotToParent(_) => "a transmission does not go from a child to its parent",
-        ApprovalFault::Conflicting(_) => "a transmission conflicts with an earlier one of its step",
-        ApprovalFault::SlotCount(_) => "a node has not as many transmissions as slots",
-        ApprovalFault::OutOfOrder(_) => "a node transmits before its children have finished",
-    };
-    let counted = match fault {
-        ApprovalFault::SlotCount(_) => "node",
-        _ => "transmission",
-    };
-    Reason {
-        code: fault.code(),
-        meaning,
-        counted,
-        place: fault.position(),
-    }
-}
-
 fn reason_of(refusal: Refusal) -> Reason {
     match refusal {
         Refusal::Survey(fault) => survey_reason(fault),
         Refusal::Model(fault) => model_reason(fault),
-        Refusal::Plan(PlanFault::Tree(fault)) => tree_reason(fault),
-        Refusal::Plan(PlanFault::ShortList) => Reason {
-            code: PlanFault::ShortList.code(),
-            meaning: "a list for the plan has fewer than 256 places",
-            counted: "list",
-            place: None,
-        },
-        Refusal::Approval(fault) => approval_reason(fault),
+        Refusal::Tree(fault) => tree_reason(fault),
     }
 }
 
