@@ -21,8 +21,11 @@ index-left-candidate g c = omega (arith, join-within (c .loop-candidate .inv) (c
 
 pub sub-left : need.sub-left
 sub-left g c =
-    join-slots (c .loop-candidate .inv) (c .in-Some .candidate) (c .in-Some .ensures tt .popped) (c .pop .kept .places)
-    (c .if-is-free .ensures tt)
+    omega (
+      arith,
+      join-slots (c .loop-candidate .inv) (c .in-Some .candidate) (c .in-Some .ensures tt .popped) (c .pop .kept .places)
+          (c .if-is-free .ensures tt),
+    )
 
 pub index-left-candidate-then-is-free : need.index-left-candidate-then-is-free
 index-left-candidate-then-is-free g c = omega (arith, join-within (c .loop-candidate .inv) (c .in-Some .candidate) (c .in-Some .ensures tt .popped) (c .pop .kept .places))

@@ -1,0 +1,5 @@
+use Rattle.rules.proofs.Worked.{worked}
+use Rattle.rules.proofs.theorem.examples_hold.Needs as need
+
+pub returns : need.returns
+returns c = worked

@@ -1,0 +1,10 @@
+pub mod Lists
+pub mod Refusals
+pub mod Phases
+pub mod Rows
+pub mod Waits
+pub mod Rules
+pub mod Runs
+pub mod Promise
+pub mod Laws
+pub mod Examples
