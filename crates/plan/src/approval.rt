@@ -34,14 +34,16 @@ impl ApprovedPlan {
 
     /// The number of steps.
     pub fn length(&self) -> u16
-        ensures { λ r. ⌜ r ≡ lengthOf (planOf (now (self .entry))) ⌝ }
+        ensures value { λ r. ⌜ r ≡ lengthOf (planOf (now (self .entry))) ⌝ }
+        ensures bound { λ r. ⌜ (1 ≤ r) × (r ≤ 256) ⌝ }
     {
         self.steps
     }
 
     /// The minimum step distance: steps so far apart, or farther, do not conflict.
     pub fn distance(&self) -> u16
-        ensures { λ r. ⌜ r ≡ planOf (now (self .entry)) .distance ⌝ }
+        ensures value { λ r. ⌜ r ≡ planOf (now (self .entry)) .distance ⌝ }
+        ensures bound { λ r. ⌜ 1 ≤ r ⌝ }
     {
         self.distance
     }

@@ -18,13 +18,13 @@ use Rattle.rules.specs.declared.row.Row.{Row}
 use Rattle.rules.specs.Lists.{_∈_}
 use Rattle.rules.specs.Rows.{bookedRow, before, rowOf, waits, firstInRank}
 use Rattle.rules.specs.Waits.{IsWait, waitOf, keeps, firstLate}
-use Rattle.rules.specs.Rules.{View, opened, bookRefusal, bookWith, trialWith, mayStart, startWith, startAny, linesNow, lineAt, mostLines, wait, waitIn, orNotInTable}
+use Rattle.rules.specs.Rules.{View, opened, bookRefusal, bookWith, trialWith, mayStart, startWith, startAny, slotOver, linesNow, lineAt, mostLines, wait, waitIn, orNotInTable}
 use Rattle.rules.specs.Runs.{lastView}
 use Rattle.rules.specs.Laws.{KeepsDeadline, NamesFirst, Wait-least, Wait-found, Admission, Trial-same, Wait-answered, Lines-fit}
 use Rattle.rules.proofs.Ranks.{First, Leads, first-leads}
 use Rattle.rules.proofs.Waiting.{wait-found, wait-is, keeps-wait, wait-keeps}
 use Rattle.rules.proofs.Invariant.{free, Spaced, Rounds, Inv}
-use Rattle.rules.proofs.Running.{Running, running-same, running-started}
+use Rattle.rules.proofs.Running.{Running, running-same, running-started, running-over}
 use Rattle.rules.proofs.Starts.{may-free}
 use Rattle.rules.proofs.States.{opened-inv, keeps-run, waited}
 use Rattle.rules.proofs.RowsOf.{row-found}
@@ -104,19 +104,35 @@ length-lines : (s : ℕ) (rs : List Round) → length (map (lineAt s) rs) ≡ le
 length-lines s [] = refl
 length-lines s (r ∷ rs) = ap suc (length-lines s rs)
 
+-- what a view says of its running rounds
+abbrev pub RoundsOf : View → Type 0
+RoundsOf v = Rounds (v .length) (v .distance) (v .slot) (free (v .distance) (v .last)) (v .running)
+
 -- the lines of a slot have room
-pub lines-few : (v : View) → Inv v → length (linesNow (startAny v)) ≤ mostLines v
-lines-few v k = go (firstInRank waits (v .rows)) (mayStart (v .distance) (v .last) (v .slot)) refl
+pub lines-few : (v : View) → 1 ≤ v .length → 1 ≤ v .distance → RoundsOf v → length (linesNow (startAny v)) ≤ mostLines v
+lines-few v long spread k = go (firstInRank waits (v .rows)) (mayStart (v .distance) (v .last) (v .slot)) refl
   where
     go : (o : Option Row) (b : Bool) → mayStart (v .distance) (v .last) (v .slot) ≡ b → length (linesNow (startWith o b v)) ≤ mostLines v
-    go None b e = rw (length-lines (v .slot) (v .running)) (running-few _ _ _ _ (v .running) (k .spread) (running-same _ _ _ _ (v .running) (k .rounds)))
-    go (Some y) false e = rw (length-lines (v .slot) (v .running)) (running-few _ _ _ _ (v .running) (k .spread) (running-same _ _ _ _ (v .running) (k .rounds)))
+    go None b e = rw (length-lines (v .slot) (v .running)) (running-few _ _ _ _ (v .running) spread (running-same _ _ _ _ (v .running) k))
+    go (Some y) false e = rw (length-lines (v .slot) (v .running)) (running-few _ _ _ _ (v .running) spread (running-same _ _ _ _ (v .running) k))
     go (Some y) true e =
         rw (length-lines (v .slot) (v .running ++ (record { number = y .number; start = v .slot } ∷ [])))
-        (running-few _ _ _ _ _ (k .spread)
-        (running-started _ _ _ _ (v .running) (record { number = y .number; start = v .slot }) refl (k .long) (k .spread)
-        (may-free _ (v .last) (v .slot) (k .spread) e) (k .rounds)))
+        (running-few _ _ _ _ _ spread
+        (running-started _ _ _ _ (v .running) (record { number = y .number; start = v .slot }) refl long spread
+        (may-free _ (v .last) (v .slot) spread e) k))
+
+-- and a slot keeps that
+pub rounds-slot : (v : View) → 1 ≤ v .length → 1 ≤ v .distance → RoundsOf v → RoundsOf (slotOver (startAny v))
+rounds-slot v long spread k = go (firstInRank waits (v .rows)) (mayStart (v .distance) (v .last) (v .slot)) refl
+  where
+    go : (o : Option Row) (b : Bool) → mayStart (v .distance) (v .last) (v .slot) ≡ b → RoundsOf (slotOver (startWith o b v))
+    go None b e = running-over _ _ _ _ (v .running) (running-same _ _ _ _ (v .running) k)
+    go (Some y) false e = running-over _ _ _ _ (v .running) (running-same _ _ _ _ (v .running) k)
+    go (Some y) true e =
+        running-over _ _ _ _ _
+        (running-started _ _ _ _ (v .running) (record { number = y .number; start = v .slot }) refl long spread (may-free _ (v .last) (v .slot) spread e) k)
 
 pub lines-fit : Lines-fit
 lines-fit L Δ first long spread calls =
-    lines-few (lastView (opened L Δ first) calls) (keeps-run calls (opened L Δ first) (opened-inv L Δ first long spread))
+    let k = keeps-run calls (opened L Δ first) (opened-inv L Δ first long spread) in
+    lines-few (lastView (opened L Δ first) calls) (k .long) (k .spread) (k .rounds)

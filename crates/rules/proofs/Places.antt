@@ -21,6 +21,7 @@ use Rattle.rules.specs.Rows.{before, hasNumber, rowOf, waits, firstInRank, con
 use Rattle.rules.specs.Waits.{against, rounds, load, demand, waitOf, endsBy, keeps, firstLate}
 use Rattle.rules.specs.Rules.{View, naming, mayStart, startWith, startAny}
 use Rattle.rules.proofs.Ranks.{First, Leads, first-leads}
+use Rattle.rules.proofs.Sums.{from-map, from-keep, from-end}
 
 -- no two rows have one number
 abbrev pub Distinct : List Row → Type 0
@@ -45,6 +46,32 @@ distinct-from (h ∷ t) d k = (
     place-of [] x m = elim m [ ]
     place-of (y ∷ r) x (inl e) = (0, omega arith, sym e)
     place-of (y ∷ r) x (inr m) = let o = place-of r x m in (suc (o .0), let l = o .1 in omega arith, o .2)
+
+-- the calls keep that
+pub distinct-map : (u : Row → Row) (t : List Row) → ((h : Row) → u h .number ≡ h .number) → Distinct t → Distinct (map u t)
+distinct-map u [] k old = tt
+distinct-map u (h ∷ t) k old = (
+  λ x m e. let o = from-map u t x m in old .0 (o .0) (o .1) (sym (k h) ∙ e ∙ ap (λ (z : Row). z .number) (o .2) ∙ k (o .0)),
+  distinct-map u t k (old .1),
+)
+
+pub distinct-keep : (p : Row → Bool) (t : List Row) → Distinct t → Distinct (kept-by p t)
+distinct-keep p [] old = tt
+distinct-keep p (h ∷ t) old = go (distinct-keep p t (old .1)) (p h)
+  where
+    go : Distinct (kept-by p t) → (b : Bool) → Distinct (cond b (h ∷ kept-by p t) (kept-by p t))
+    go rest true = (λ x m e. old .0 x (from-keep p t x m) e, rest)
+    go rest false = rest
+
+pub distinct-end : (t : List Row) (x : Row) → ((k : Row) → k ∈ t → k .number < x .number) → Distinct t → Distinct (t ++ (x ∷ []))
+distinct-end [] x k old = (λ y m e. elim m [ ], tt)
+distinct-end (h ∷ t) x k old = (
+  λ y m e. elim (from-end t x y m) [
+    | inl i ↦ old .0 y i e
+    | inr p ↦ let l = k h (inl refl) in let f : y .number ≡ x .number = ap (λ (z : Row). z .number) p in absurd (omega arith)
+  ],
+  distinct-end t x (λ y m. k y (inr m)) (old .1),
+)
 
 -- The row of a number, by its place
 

@@ -11,7 +11,7 @@ part-result-end c =
     let p = c .args .self .now in
     let long : p .steps ≤ length (p .counts) = omega arith in
     let steps = length-take-le (p .steps) (p .counts) long in
-    let below : c .args .step < p .steps = omega (arith, c .length .ensures, c .if-step-length .left) in
+    let below : c .args .step < p .steps = omega (arith, c .length .ensures .value, c .if-step-length .left) in
     let end = ends-within (p .counts) (p .steps) (c .args .step) below long in
     let start = p .laid (c .args .step) below in
     omega arith
@@ -22,7 +22,7 @@ returns c =
     let k = c .args .step in
     let long : p .steps ≤ length (p .counts) = omega arith in
     let steps = length-take-le (p .steps) (p .counts) long in
-    let below : k < p .steps = omega (arith, c .length .ensures, c .if-step-length .left) in
+    let below : k < p .steps = omega (arith, c .length .ensures .value, c .if-step-length .left) in
     let start = p .laid k below in
     let part = part-at (p .counts) (p .steps) k below long (p .transmissions) (p .size) (p .whole) in
     let size : getD (p .starts) k 0 + getD (p .counts) k 0 - getD (p .starts) k 0 ≡ getD (p .counts) k 0 = omega arith in (

@@ -1,0 +1,17 @@
+mod Bookable
+mod Changes
+mod Climbs
+mod Entries
+mod Lateness
+mod Loads
+mod Means
+mod Numbers
+mod Opening
+mod Places
+mod Rounds
+mod Promises
+mod Safe
+mod Settles
+mod Slots
+mod Tables
+mod Waitings

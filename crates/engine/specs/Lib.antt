@@ -1,0 +1,12 @@
+pub mod Admissions
+pub mod Bookings
+pub mod Engines
+pub mod Entries
+pub mod Meanings
+pub mod Rounds
+pub mod Rows
+pub mod Starts
+pub mod States
+pub mod Tables
+pub mod Trials
+pub mod Views
