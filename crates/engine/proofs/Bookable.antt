@@ -10,7 +10,7 @@ use Rattle.rules.specs.Rows.{booked_row, row_of}
 use Rattle.rules.specs.Rules.{View, book, book_refusal, book_with, fair, naming, trial, trial_with, unless_booked, when}
 use Rattle.rules.specs.Waits.{first_late}
 use Rattle.std.proofs.lemmas.Bool.{eq-eqb, leb-false, ltb-false, ne_eqb}
-use Rattle.std.specs.List.{AllByRecursion as All}
+use Rattle.std.specs.List.{AllByRecursion}
 
 neither : {X : Type 0} (a b : Option X) → or_else a b ≡ None → (a ≡ None) × (b ≡ None)
 neither None b e = (refl, e)
@@ -59,11 +59,11 @@ module _ (v : View) (priority period deadline : ℕ) where
   trial_refused f refused = rw refused refl
 
 -- the row entered last is that of its number
-row_last : (rows : List Row) (x : Row) → All (λ h. h.number < x.number) rows → row_of x.number (rows ++ x ∷ []) ≡ Some x
+row_last : (rows : List Row) (x : Row) → AllByRecursion (λ h. h.number < x.number) rows → row_of x.number (rows ++ x ∷ []) ≡ Some x
 row_last [] x below = rw (eq-eqb x.number x.number refl) refl
 row_last (h ∷ rows) x below =
     rw (ne_eqb h.number x.number (λ e. let less = below.0 in omega arith)) (row_last rows x below.1)
 
 pub stands_booked : (rows rows' : List Row) (x : Row) (k : ℕ) → k ≡ x.number → is_booked x.phase ≡ true
-    → All (λ h. h.number < x.number) rows → rows' ≡ rows ++ x ∷ [] → unless_booked (row_of k rows') ≡ None
+    → AllByRecursion (λ h. h.number < x.number) rows → rows' ≡ rows ++ x ∷ [] → unless_booked (row_of k rows') ≡ None
 stands_booked rows rows' x k same booked below e = rw (same, e, row_last rows x below, booked) refl

@@ -8,7 +8,7 @@ use Rattle.rules.specs.Phases.{is_booked, is_leaving, is_waiting, started}
 use Rattle.rules.specs.Rows.{before, better, confirm_row, first_in_rank, has_number, release_row, start_row, staying, waits}
 use Rattle.std.proofs.ByRecursion.{all_kept_by, All-map, All-push, All-weaker}
 use Rattle.std.proofs.lemmas.Bool.{and_from, and_parts, false≢true}
-use Rattle.std.specs.List.{AllByRecursion as All}
+use Rattle.std.specs.List.{AllByRecursion}
 
 abbrev Unclosed : Row → Type 0
 Unclosed h = not (is_closed h.phase) ≡ true
@@ -17,13 +17,13 @@ Unclosed h = not (is_closed h.phase) ≡ true
 abbrev pub Noted : Bool → List Row → Type 0
 Noted closing rows = (closing || none_closed rows) ≡ true
 
-none_all : (rows : List Row) → none_closed rows ≡ true → All Unclosed rows
+none_all : (rows : List Row) → none_closed rows ≡ true → AllByRecursion Unclosed rows
 none_all [] e = tt
 none_all (h ∷ rows) e =
     let parts = and_parts (not (is_closed h.phase)) (none_closed rows) e in
     (parts.0, none_all rows parts.1)
 
-all_none : (rows : List Row) → All Unclosed rows → none_closed rows ≡ true
+all_none : (rows : List Row) → AllByRecursion Unclosed rows → none_closed rows ≡ true
 all_none [] a = refl
 all_none (h ∷ rows) a = and_from (not (is_closed h.phase)) (none_closed rows) a.0 (all_none rows a.1)
 
@@ -61,7 +61,7 @@ quiet_unclosed (LeavingWaiting r) w s = sym w
 -- ---- calls that close no row
 
 module _ (closing : Bool) (rows : List Row) (was : Noted closing rows) where
-  noted_by : (rows' : List Row) → (All Unclosed rows → All Unclosed rows') → Noted closing rows'
+  noted_by : (rows' : List Row) → (AllByRecursion Unclosed rows → AllByRecursion Unclosed rows') → Noted closing rows'
   noted_by rows' keep = go closing was
     where
       go : (b : Bool) → Noted b rows → Noted b rows'
@@ -105,7 +105,7 @@ pub none_swept : (closing : Bool) (rows : List Row) → closing ≡ false → No
 none_swept true rows off e = absurd (false≢true (sym off))
 none_swept false rows off e = go rows (none_all rows e)
   where
-    go : (rows : List Row) → All Unclosed rows → rows ≡ filter staying rows
+    go : (rows : List Row) → AllByRecursion Unclosed rows → rows ≡ filter staying rows
     go [] a = refl
     go (h ∷ rows) a = rw (unclosed_stays h.phase a.0) (ap (λ l. h ∷ l) (go rows a.1))
 

@@ -21,7 +21,7 @@ use Rattle.std.proofs.lemmas.List.{append-nil, length-take-le}
 use Rattle.std.proofs.lemmas.List.Sorted.{IsPermutation-swap, IsPermutation-sym}
 use Rattle.std.proofs.lemmas.Bool.{eq-eqb, false≢true}
 use Rattle.std.proofs.lemmas.Bool.Decides.{nat_tests}
-use Rattle.std.specs.List.{AllByRecursion as All}
+use Rattle.std.specs.List.{AllByRecursion}
 
 -- ---- the rank of entries
 
@@ -105,7 +105,7 @@ entries_some test h rows e = rw e
 entries_none : (test : Row → Bool) (h : Row) (rows : List Row) → test h ≡ false → entries_by test (h ∷ rows) ≡ entries_by test rows
 entries_none test h rows e = rw e
 
-entries_same : (p r : Row → Bool) (rows : List Row) → All (λ h. p h ≡ r h) rows → entries_by p rows ≡ entries_by r rows
+entries_same : (p r : Row → Bool) (rows : List Row) → AllByRecursion (λ h. p h ≡ r h) rows → entries_by p rows ≡ entries_by r rows
 entries_same p r [] alike = refl
 entries_same p r (h ∷ rows) alike = rw alike.0 (go (r h) (entries_same p r rows alike.1))
   where
@@ -196,7 +196,7 @@ leaving_waits (WaitingSince r) = refl
 leaving_waits Leaving = refl
 leaving_waits (LeavingWaiting r) = refl
 
-all_rows : (P : Row → Type 0) → ((h : Row) → P h) → (rows : List Row) → All P rows
+all_rows : (P : Row → Type 0) → ((h : Row) → P h) → (rows : List Row) → AllByRecursion P rows
 all_rows P k [] = tt
 all_rows P k (h ∷ rows) = (k h, all_rows P k rows)
 

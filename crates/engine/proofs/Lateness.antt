@@ -10,7 +10,7 @@ use Rattle.rules.specs.Waits.{against, demand, ends_by, keeps, load, rounds, wai
 use Rattle.std.proofs.ByRecursion.{All-get_or}
 use Rattle.std.proofs.lemmas.List.{drop_all, drop_more}
 use Rattle.std.proofs.lemmas.Bool.Decides.{nat_tests}
-use Rattle.std.specs.List.{AllByRecursion as All}
+use Rattle.std.specs.List.{AllByRecursion}
 
 rank_once : (h x : Row) → before h x ≡ true → before x h ≡ false
 rank_once h x e = grind (arith, nat_tests)
@@ -29,7 +29,7 @@ pub unfelt : (L d : ℕ) (rows : List Row) (x h : Row) → before h x ≡ true �
 unfelt L d rows x h e kept =
     let same = ap (λ o. ends_by o L h.deadline) (wait_unfelt d rows x h e) in sym (ap not (same ∙ kept))
 
-pub kept_at : (L d : ℕ) (rows : List Row) (i : ℕ) → i < length rows → All (Kept L d rows) rows → Kept L d rows (get_or rows i blank)
+pub kept_at : (L d : ℕ) (rows : List Row) (i : ℕ) → i < length rows → AllByRecursion (Kept L d rows) rows → Kept L d rows (get_or rows i blank)
 kept_at L d rows i h all = All-get_or (Kept L d rows) rows i blank h all
 
 module _ (test : Row → Bool) (x : Row) where

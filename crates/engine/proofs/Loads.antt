@@ -8,13 +8,13 @@ use Rattle.rules.specs.Waits.{against, demand, load, rounds}
 use Rattle.std.proofs.ByRecursion.{All-get_or}
 use Rattle.std.proofs.lemmas.List.{at_drop_all, at_drop_more}
 use Rattle.std.specs.Option.{option_to_list}
-use Rattle.std.specs.List.{AllByRecursion as All}
+use Rattle.std.specs.List.{AllByRecursion}
 
 -- what stands past the end of a table
 abbrev pub blank : Row
 blank = record { number = 0; priority = 0; period = 0; deadline = 0; earliest = 0; phase = Booked }
 
-pub fair_at : (rows : List Row) (i : ℕ) → i < length rows → All Fair rows → Fair (get_or rows i blank)
+pub fair_at : (rows : List Row) (i : ℕ) → i < length rows → AllByRecursion Fair rows → Fair (get_or rows i blank)
 fair_at rows i h all = All-get_or Fair rows i blank h all
 
 pub load_more : (rows : List Row) (q : Row) (w i : ℕ) → i < length rows

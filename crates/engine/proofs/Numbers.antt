@@ -10,12 +10,12 @@ use Rattle.rules.proofs.RowsOf.{Unique, some_row}
 use Rattle.rules.proofs.Steps.{after_book, by_ways}
 use Rattle.std.proofs.ByRecursion.{all_kept_by, All-map, All-push, All-weaker}
 use Rattle.std.proofs.lemmas.Bool.{cond_both, eqb-true, ne_eqb}
-use Rattle.std.specs.List.{AllByRecursion as All}
+use Rattle.std.specs.List.{AllByRecursion}
 
 -- each row has a smaller number than those after it
 abbrev pub Rising : List Row → Type 0
 Rising [] = Unit {0}
-Rising (h ∷ rows) = All (λ q. h.number < q.number) rows × Rising rows
+Rising (h ∷ rows) = AllByRecursion (λ q. h.number < q.number) rows × Rising rows
 
 pub rising_map : (u : Row → Row) → ((h : Row) → (u h).number ≡ h.number) → (rows : List Row) → Rising rows → Rising (map u rows)
 rising_map u same [] up = tt
@@ -31,14 +31,14 @@ rising_kept p (h ∷ rows) up =
     let rest = rising_kept p rows up.1 in
     cond_both (p h) (h ∷ filter p rows) (filter p rows) Rising (λ _. (all_kept_by p (λ q. h.number < q.number) rows up.0, rest)) (λ _. rest)
 
-pub rising_push : (rows : List Row) (x : Row) → All (λ q. q.number < x.number) rows → Rising rows → Rising (rows ++ x ∷ [])
+pub rising_push : (rows : List Row) (x : Row) → AllByRecursion (λ q. q.number < x.number) rows → Rising rows → Rising (rows ++ x ∷ [])
 rising_push [] x below up = (tt, tt)
 rising_push (h ∷ rows) x below up = (
   All-push (λ q. h.number < q.number) rows x up.0 below.0,
   rising_push rows x below.1 up.1,
 )
 
-all_in : (P : Row → Type 0) (rows : List Row) (h : Row) → All P rows → h ∈ rows → P h
+all_in : (P : Row → Type 0) (rows : List Row) (h : Row) → AllByRecursion P rows → h ∈ rows → P h
 all_in P [] h all m = elim m [ ]
 all_in P (x ∷ rows) h all (inl e) = subst P (sym e) all.0
 all_in P (x ∷ rows) h all (inr m) = all_in P rows h all.1 m
@@ -57,19 +57,19 @@ rising_unique (x ∷ rows) up h k (inr m) (inl q) e =
 rising_unique (x ∷ rows) up h k (inr m) (inr i) e = rising_unique rows up.1 h k m i e
 
 -- rows after one of the number n do not have it
-pub past_number : (n : ℕ) (h : Row) (rows : List Row) → has_number n h ≡ true → All (λ q. h.number < q.number) rows
-    → All (λ q. has_number n q ≡ false) rows
+pub past_number : (n : ℕ) (h : Row) (rows : List Row) → has_number n h ≡ true → AllByRecursion (λ q. h.number < q.number) rows
+    → AllByRecursion (λ q. has_number n q ≡ false) rows
 past_number n h rows k above =
     let same = eqb-true h.number n k in
     All-weaker (λ q. h.number < q.number) (λ q. has_number n q ≡ false) (λ q l. ne_eqb q.number n (λ e. omega arith)) rows above
 
 -- what holds of the row of n, and of every row with another number, holds of each
 pub each_row : (P : Row → Type 0) (n : ℕ) (rows : List Row) (q : Row) → Rising rows → row_of n rows ≡ Some q → P q
-    → ((h : Row) → has_number n h ≡ false → P h) → All P rows
+    → ((h : Row) → has_number n h ≡ false → P h) → AllByRecursion P rows
 each_row P n [] q up e here others = tt
 each_row P n (h ∷ rows) q up e here others = go (λ f. each_row P n rows q up.1 f here others) (has_number n h) refl e
   where
-    go : (row_of n rows ≡ Some q → All P rows) → (b : Bool) → has_number n h ≡ b → cond b (Some h) (row_of n rows) ≡ Some q → P h × All P rows
+    go : (row_of n rows ≡ Some q → AllByRecursion P rows) → (b : Bool) → has_number n h ≡ b → cond b (Some h) (row_of n rows) ≡ Some q → P h × AllByRecursion P rows
     go rest true k f = (
       subst P (sym (some_row h q f)) here,
       All-weaker (λ q. has_number n q ≡ false) P others rows (past_number n h rows k up.0),
@@ -80,7 +80,7 @@ each_row P n (h ∷ rows) q up e here others = go (λ f. each_row P n rows q up.
 
 pub record Ordered (v : View) : Type 0 where
   pub rising : Rising v.rows
-  pub below : All (λ h. h.number < v.next) v.rows
+  pub below : AllByRecursion (λ h. h.number < v.next) v.rows
 
 ordered_map : (v : View) (u : Row → Row) → ((h : Row) → (u h).number ≡ h.number) → Ordered v → Ordered (with_rows v (map u v.rows))
 ordered_map v u same o = record {

@@ -8,7 +8,7 @@ use Rattle.rules.specs.declared.row.Row.{Row}
 use Rattle.rules.specs.Rows.{has_number, row_of}
 use Rattle.std.proofs.ByRecursion.{All-get_or, All-weaker}
 use Rattle.std.proofs.lemmas.Bool.{eqb-true, ne_eqb}
-use Rattle.std.specs.List.{AllByRecursion as All}
+use Rattle.std.specs.List.{AllByRecursion}
 
 -- a search by place finds the row of the number
 row_is_at : (n : ℕ) (rows : List Row) (i : ℕ) → i < length rows → has_number n (row_at rows i) ≡ true
@@ -46,7 +46,7 @@ rising_places (h ∷ rows) up (suc k) l = rw add-one (rw add-one at (rising_plac
 
 -- ---- a change of the row of a number alone
 
-map_same : (u : Row → Row) (rows : List Row) → All (λ h. u h ≡ h) rows → map u rows ≡ rows
+map_same : (u : Row → Row) (rows : List Row) → AllByRecursion (λ h. u h ≡ h) rows → map u rows ≡ rows
 map_same u [] same = refl
 map_same u (h ∷ rows) same = ap (λ q. q ∷ map u rows) same.0 ∙ ap (λ l. h ∷ l) (map_same u rows same.1)
 

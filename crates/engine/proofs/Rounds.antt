@@ -9,13 +9,13 @@ use Rattle.rules.proofs.Running.{Running}
 use Rattle.std.proofs.ByRecursion.{All-get_or}
 use Rattle.std.proofs.lemmas.List.Filters.{FiltersInPlace, FiltersInPlace-more_no, FiltersInPlace-more_set}
 use Rattle.std.proofs.lemmas.List.{append_assoc, drop_more, get_or_default, get_or-take, length-map, length-take-le, map_more, set_at}
-use Rattle.std.specs.List.{AllByRecursion as All}
+use Rattle.std.specs.List.{AllByRecursion}
 
 -- what stands past the end of a list
 abbrev pub free : Round
 free = record { number = 0; start = 0 }
 
-pub runs_at : (slot n : ℕ) (rounds : List Round) (i : ℕ) → i < n → n ≤ length rounds → All (Runs slot) (take n rounds)
+pub runs_at : (slot n : ℕ) (rounds : List Round) (i : ℕ) → i < n → n ≤ length rounds → AllByRecursion (Runs slot) (take n rounds)
     → Runs slot (get_or rounds i free)
 runs_at slot n rounds i below within all =
     subst (Runs slot) (get_or-take n rounds i free below)
@@ -50,11 +50,11 @@ module _ (p : Round → Bool) (xs ys : List Round) (k i : ℕ) (was : FiltersInP
   pub keeping_front : (n : ℕ) → i ≡ n → take k ys ≡ filter p (take n xs)
   keeping_front n e = was.front ∙ ap (λ j. filter p (take j xs)) e
 
-all_from_in : (P : Round → Type 0) (rs : List Round) → ((r : Round) → r ∈ rs → P r) → All P rs
+all_from_in : (P : Round → Type 0) (rs : List Round) → ((r : Round) → r ∈ rs → P r) → AllByRecursion P rs
 all_from_in P [] k = tt
 all_from_in P (r ∷ rs) k = (k r (inl refl), all_from_in P rs (λ z m. k z (inr m)))
 
 -- the running rounds of an engine
-pub runs_all : (L d s n : ℕ) (rs : List Round) → L < 2 ^ 32 → Running L d s n rs → All (Runs s) rs
+pub runs_all : (L d s n : ℕ) (rs : List Round) → L < 2 ^ 32 → Running L d s n rs → AllByRecursion (Runs s) rs
 runs_all L d s n rs small k =
     all_from_in (Runs s) rs (λ r m. (k.begun r m, (let l = k.live r m in let b = k.begun r m in omega arith)))

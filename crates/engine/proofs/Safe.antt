@@ -16,7 +16,7 @@ use Rattle.rules.proofs.Invariant.{Inv}
 use Rattle.rules.proofs.Lawful.{lines_few}
 use Rattle.rules.proofs.States.{all_keep, keeps_inv}
 use Rattle.std.proofs.ByRecursion.{All-from_get_or}
-use Rattle.std.specs.List.{AllByRecursion as All}
+use Rattle.std.specs.List.{AllByRecursion}
 
 -- a row at a place stands in the table
 at_place : (rows : List Row) (i : ℕ) → i < length rows → row_at rows i ∈ rows
@@ -28,17 +28,17 @@ module _ (v : View) (good : ∥ Inv v ∥₁) where
   pub stays_good : (c : Call) → ∥ Inv (step c v).1 ∥₁
   stays_good c = ∥∥₁_map good (λ k. keeps_inv v k c)
 
-  pub fair_rows : All Fair v.rows
+  pub fair_rows : AllByRecursion Fair v.rows
   fair_rows =
       All-from_get_or Fair v.rows blank
       (λ i h. ∥∥₁_elim good le_prop (λ k. (k.table.sound (row_at v.rows i) (at_place v.rows i h)).turns))
 
-  pub kept_rows : All (Kept v.length v.distance v.rows) v.rows
+  pub kept_rows : AllByRecursion (Kept v.length v.distance v.rows) v.rows
   kept_rows =
       All-from_get_or (Kept v.length v.distance v.rows) v.rows blank
       (λ i h. ∥∥₁_elim good (Bool-set _ _) (λ k. all_keep v k (row_at v.rows i) (at_place v.rows i h)))
 
-  pub below_rows : All (λ h. h.number < v.next) v.rows
+  pub below_rows : AllByRecursion (λ h. h.number < v.next) v.rows
   below_rows =
       All-from_get_or (λ h. h.number < v.next) v.rows blank
       (λ i h. ∥∥₁_elim good le_prop (λ k. k.table.below (row_at v.rows i) (at_place v.rows i h)))

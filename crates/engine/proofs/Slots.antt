@@ -23,7 +23,7 @@ use Rattle.rules.proofs.Starts.{may_free}
 use Rattle.std.proofs.ByRecursion.{All-from_get_or, All-get_or}
 use Rattle.std.proofs.lemmas.List.{length-append, length-map}
 use Rattle.std.proofs.lemmas.Bool.{le-ltb, ne_eqb}
-use Rattle.std.specs.List.{AllByRecursion as All}
+use Rattle.std.specs.List.{AllByRecursion}
 
 pub none_waits : (o : Option Row) → true ≡ not (is_some o) → o ≡ None
 none_waits None e = refl
@@ -71,7 +71,7 @@ module _ (v : View) where
       )
 
   module _ (good : ∥ Inv v ∥₁) (short : v.length ≤ 256) (spread : 1 ≤ v.distance) where
-    pub runs-now : All (Runs v.slot) (start_any v).running
+    pub runs-now : AllByRecursion (Runs v.slot) (start_any v).running
     runs-now =
         All-from_get_or (Runs v.slot) (start_any v).running free
         (λ i h. (∥∥₁_elim good le_prop (λ k. (at k i h).0), ∥∥₁_elim good le_prop (λ k. (at k i h).1)))

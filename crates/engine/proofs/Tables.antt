@@ -22,7 +22,7 @@ use Rattle.routing.specs.Search.{or_else}
 use Rattle.std.proofs.lemmas.List.Filters.{length-filter_both}
 use Rattle.std.proofs.lemmas.List.{get_or-take, length-map, length-take-le}
 use Rattle.std.proofs.lemmas.Bool.{ne_eqb, not-false}
-use Rattle.std.specs.List.{AllByRecursion as All}
+use Rattle.std.specs.List.{AllByRecursion}
 
 -- ---- refusals
 
@@ -115,7 +115,7 @@ held_short rows queue h =
 -- ---- a table after a call
 
 module _ {closing : Bool} (rows : List Row) (queue : List Waiting) (h : Held closing rows queue) where
-  pub held_entered : (x : Row) → All (λ q. q.number < x.number) rows → is_booked x.phase ≡ true → Held closing (rows ++ x ∷ []) queue
+  pub held_entered : (x : Row) → AllByRecursion (λ q. q.number < x.number) rows → is_booked x.phase ≡ true → Held closing (rows ++ x ∷ []) queue
   held_entered x above booked = record {
     rising = rising_push rows x above h.rising;
     queued = h.queued ∙ ap (ranked sooner) (sym (book_waiting rows x (booked_waits x.phase booked)));

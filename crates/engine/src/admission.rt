@@ -3,7 +3,7 @@ ghost use Rattle.engine.specs.Admissions.{Admitted, admit_refusal};
 ghost use Rattle.engine.specs.Tables.{Fair, Kept};
 ghost use Rattle.rules.specs.Rows.{better, booked_row};
 ghost use Rattle.rules.specs.Waits.{first_late, keeps};
-ghost use Rattle.std.specs.List.{AllByRecursion as All};
+ghost use Rattle.std.specs.List.{AllByRecursion};
 
 use crate::terms::Terms;
 use crate::trial::TrialPlace;
@@ -15,7 +15,7 @@ use rules::row::Row;
 /// Whether a row of the table, in which every row keeps its deadline, would not keep it with x. A row that ranks
 /// before x does not feel it, so it is not reckoned again.
 fn is_late(steps: u16, distance: u16, rows: &[Row], x: Row, h: Row) -> bool
-    requires { (length rows.now ≤ 64) × ((All Fair rows.now) × ((Fair x) × ((1 ≤ distance) × (Kept steps distance rows.now h)))) }
+    requires { (length rows.now ≤ 64) × ((AllByRecursion Fair rows.now) × ((Fair x) × ((1 ≤ distance) × (Kept steps distance rows.now h)))) }
     ensures { result ≡ not (keeps steps distance (rows.now ++ x ∷ []) h) }
 {
     !ranks_before(h, x) && !keeps_deadline(steps, distance, rows, Some(x), h)
@@ -34,7 +34,7 @@ fn better_of(late: bool, h: Row, found: Option<Row>) -> Option<Row>
 
 /// The row that ranks first among those that would not keep their deadline if x were entered into the table.
 pub(crate) fn first_late(steps: u16, distance: u16, rows: &[Row], x: Row) -> Option<Row>
-    requires { (length rows.now ≤ 64) × ((All Fair rows.now) × ((Fair x) × ((1 ≤ distance) × (All (Kept steps distance rows.now) rows.now)))) }
+    requires { (length rows.now ≤ 64) × ((AllByRecursion Fair rows.now) × ((Fair x) × ((1 ≤ distance) × (AllByRecursion (Kept steps distance rows.now) rows.now)))) }
     ensures { result ≡ first_late steps distance (rows.now ++ x ∷ []) }
 {
     let late = !keeps_deadline(steps, distance, rows, Some(x), x);
@@ -54,7 +54,7 @@ pub(crate) fn admit(
     rows: &[Row],
     asked: TrialPlace,
 ) -> Result<Row, Refusal>
-    requires { (length rows.now ≤ 64) × ((All Fair rows.now) × ((1 ≤ distance) × (All (Kept steps distance rows.now) rows.now))) }
+    requires { (length rows.now ≤ 64) × ((AllByRecursion Fair rows.now) × ((1 ≤ distance) × (AllByRecursion (Kept steps distance rows.now) rows.now))) }
     ensures { Admitted (booked_row next asked.priority asked.period asked.deadline) (admit_refusal steps distance next rows.now (booked_row next asked.priority asked.period asked.deadline)) result }
 {
     let Some(terms) = Terms::new(asked.period, asked.deadline) else {

@@ -4,7 +4,7 @@ ghost use Rattle.engine.specs.Views.{Begun, rows_of};
 ghost use Rattle.rules.specs.Phases.{is_booked};
 ghost use Rattle.rules.specs.Rows.{first_in_rank, other_than, row_of, staying, waits};
 ghost use Rattle.rules.specs.Rules.{unless_booked};
-ghost use Rattle.std.specs.List.{AllByRecursion as All};
+ghost use Rattle.std.specs.List.{AllByRecursion};
 
 use crate::rows::{RowCall, Staying, apply, find, keep_rows, start_row, without_row};
 use crate::table::Table;
@@ -46,7 +46,7 @@ impl Table {
     /// Enters a booked row, whose number is above all others.
     pub(crate) fn enter(&mut self, row: Row)
         requires room { self.old.count < 32 }
-        requires above { All (λ h. h.number < row.number) (rows_of self.old) }
+        requires above { AllByRecursion (λ h. h.number < row.number) (rows_of self.old) }
         requires booked { is_booked row.phase ≡ true }
         ensures { rows_of self.new ≡ rows_of self.old ++ row ∷ [] }
     {

@@ -2,7 +2,7 @@ ghost use Rattle.std.specs.Prelude.{◌≡◌, ◌<◌, ◌≤◌, true, [], ◌
 ghost use Rattle.engine.specs.Rounds.{Runs};
 ghost use Rattle.engine.specs.Starts.{joined};
 ghost use Rattle.rules.specs.Rules.{line_at, runs_in};
-ghost use Rattle.std.specs.List.{AllByRecursion as All};
+ghost use Rattle.std.specs.List.{AllByRecursion};
 
 use rules::round::{Line, Round};
 
@@ -64,7 +64,7 @@ impl RunningRounds {
     /// Writes a line for each round: its step in the slot.
     pub(crate) fn write_lines(&self, slot: u64, lines: &mut [Line]) -> usize
         requires fit { length (take self.now.len self.now.rounds) ≤ length lines.old }
-        requires run { All (Runs slot) (take self.now.len self.now.rounds) }
+        requires run { AllByRecursion (Runs slot) (take self.now.len self.now.rounds) }
         ensures count { result ≡ length (take self.now.len self.now.rounds) }
         ensures lines { lines.new ≡ map (line_at slot) (take self.now.len self.now.rounds) ++ drop result lines.old }
     {

@@ -3,7 +3,7 @@ ghost use Rattle.engine.specs.Tables.{Fair, with_extra};
 ghost use Rattle.rules.specs.Rows.{before};
 ghost use Rattle.rules.specs.Waits.{against, demand, keeps, load, rounds, wait_of};
 ghost use Rattle.std.specs.Option.{option_to_list};
-ghost use Rattle.std.specs.List.{AllByRecursion as All};
+ghost use Rattle.std.specs.List.{AllByRecursion};
 
 use rules::row::Row;
 
@@ -32,7 +32,7 @@ fn rounds_against(h: Row, q: Row, w: u64) -> u64
 
 /// The rounds of all rows before q that can be released in w + 1 slots.
 fn load_of(rows: &[Row], q: Row, w: u64) -> u64
-    requires { (length rows.now ≤ 64) × ((All Fair rows.now) × (w ≤ 60000)) }
+    requires { (length rows.now ≤ 64) × ((AllByRecursion Fair rows.now) × (w ≤ 60000)) }
     ensures value { result ≡ load rows.now q w }
     ensures bound { result ≤ 60001 * length rows.now }
 {
@@ -45,7 +45,7 @@ fn load_of(rows: &[Row], q: Row, w: u64) -> u64
 
 /// The same of one more row, if there is one.
 fn load_of_extra(extra: Option<Row>, q: Row, w: u64) -> u64
-    requires { (All Fair (option_to_list extra)) × (w ≤ 60000) }
+    requires { (AllByRecursion Fair (option_to_list extra)) × (w ≤ 60000) }
     ensures value { result ≡ load (option_to_list extra) q w }
     ensures bound { result ≤ 60001 }
 {
@@ -57,7 +57,7 @@ fn load_of_extra(extra: Option<Row>, q: Row, w: u64) -> u64
 
 /// How long q waits at most, if the rows before it are released as often as they may be in w + 1 slots.
 fn demand_of(distance: u16, rows: &[Row], extra: Option<Row>, q: Row, w: u64) -> u64
-    requires { (length rows.now ≤ 64) × ((All Fair rows.now) × ((All Fair (option_to_list extra)) × ((w ≤ 60000) × (1 ≤ distance)))) }
+    requires { (length rows.now ≤ 64) × ((AllByRecursion Fair rows.now) × ((AllByRecursion Fair (option_to_list extra)) × ((w ≤ 60000) × (1 ≤ distance)))) }
     ensures { result ≡ demand distance (with_extra rows.now extra) q w }
 {
     let rounds = load_of(rows, q, w) + load_of_extra(extra, q, w);
@@ -67,7 +67,7 @@ fn demand_of(distance: u16, rows: &[Row], extra: Option<Row>, q: Row, w: u64) ->
 
 /// The longest wait of q by the rows, and one more row if there is one.
 pub(crate) fn longest_wait(distance: u16, rows: &[Row], extra: Option<Row>, q: Row) -> Option<u64>
-    requires { (length rows.now ≤ 64) × ((All Fair rows.now) × ((All Fair (option_to_list extra)) × (1 ≤ distance))) }
+    requires { (length rows.now ≤ 64) × ((AllByRecursion Fair rows.now) × ((AllByRecursion Fair (option_to_list extra)) × (1 ≤ distance))) }
     ensures value { result ≡ wait_of distance (with_extra rows.now extra) q }
     ensures bound { IfSome result (λ w. w ≤ 60000) }
 {
@@ -90,7 +90,7 @@ pub(crate) fn keeps_deadline(
     extra: Option<Row>,
     q: Row,
 ) -> bool
-    requires { (length rows.now ≤ 64) × ((All Fair rows.now) × ((All Fair (option_to_list extra)) × (1 ≤ distance))) }
+    requires { (length rows.now ≤ 64) × ((AllByRecursion Fair rows.now) × ((AllByRecursion Fair (option_to_list extra)) × (1 ≤ distance))) }
     ensures { result ≡ keeps steps distance (with_extra rows.now extra) q }
 {
     match longest_wait(distance, rows, extra, q) {

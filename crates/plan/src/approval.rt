@@ -65,7 +65,7 @@ impl ApprovedPlan {
         draft: Draft<'_>,
         model: &M,
     ) -> Result<(), ApprovalFault>
-        ensures { ApprovalDone (nodes model.now) (conflict model.now) tree.now draft.entry.transmissions.now draft.entry.counts.now (plan_of self.old) (plan_of self.new) result }
+        ensures { ApprovalDone (M.nodes model.now) (M.conflict model.now) tree.now draft.entry.transmissions.now draft.entry.counts.now (plan_of self.old) (plan_of self.new) result }
     {
         let distance = judge(model, tree, draft)?;
         *self = laid_out(draft.transmissions, draft.counts, distance);

@@ -42,7 +42,7 @@ fn conflicts_with<M: Interference>(
     k: usize,
 ) -> bool
     requires { (j < length transmissions.now) × ((k < length transmissions.now) × (length transmissions.now ≤ length steps.now)) }
-    ensures { result ≡ conflicts_with (conflict model.now) transmissions.now (λ i. slice_index steps.now i) k j }
+    ensures { result ≡ conflicts_with (M.conflict model.now) transmissions.now (λ i. slice_index steps.now i) k j }
 {
     steps[j] == steps[k] && model.conflicts(transmissions[j], transmissions[k])
 }
@@ -55,7 +55,7 @@ fn conflicts_at<M: Interference>(
     k: usize,
 ) -> bool
     requires { (k < length transmissions.now) × (length transmissions.now ≤ length steps.now) }
-    ensures { result ≡ conflicts_at (conflict model.now) transmissions.now (λ i. slice_index steps.now i) k }
+    ensures { result ≡ conflicts_at (M.conflict model.now) transmissions.now (λ i. slice_index steps.now i) k }
 {
     for j in 0..k {
         if conflicts_with(model, transmissions, steps, j, k) {
@@ -72,7 +72,7 @@ fn first_conflict<M: Interference>(
     steps: &[u16],
 ) -> Option<usize>
     requires { length transmissions.now ≤ length steps.now }
-    ensures { result ≡ first_below (conflicts_at (conflict model.now) transmissions.now (λ i. slice_index steps.now i)) (length transmissions.now) }
+    ensures { result ≡ first_below (conflicts_at (M.conflict model.now) transmissions.now (λ i. slice_index steps.now i)) (length transmissions.now) }
 {
     for i in 0..transmissions.len() {
         if conflicts_at(model, transmissions, steps, i) {
@@ -158,7 +158,7 @@ fn step_fault<M: Interference>(
     steps: &[u16],
 ) -> Option<ApprovalFault>
     requires { length transmissions.now ≤ length steps.now }
-    ensures { result ≡ step_fault (nodes model.now) (conflict model.now) routes.now.parents routes.now.slots transmissions.now (λ i. slice_index steps.now i) }
+    ensures { result ≡ step_fault (M.nodes model.now) (M.conflict model.now) routes.now.parents routes.now.slots transmissions.now (λ i. slice_index steps.now i) }
 {
     let n = model.nodes();
     if let Some(at) = first_stray(n, &routes.parents, transmissions) {
@@ -182,7 +182,7 @@ pub(crate) fn judge<M: Interference>(
     tree: &[TreeLink],
     draft: Draft<'_>,
 ) -> Result<u16, ApprovalFault>
-    ensures { Judged (nodes model.now) (conflict model.now) tree.now draft.entry.transmissions.now draft.entry.counts.now result }
+    ensures { Judged (M.nodes model.now) (M.conflict model.now) tree.now draft.entry.transmissions.now draft.entry.counts.now result }
 {
     let routes = read_tree(model, tree)?;
     if is_misshapen(draft.transmissions, draft.counts) {

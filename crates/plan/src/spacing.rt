@@ -16,7 +16,7 @@ fn wider<M: Interference>(
     widest: u16,
 ) -> u16
     requires { (length steps.now ≡ 256) × ((length transmissions.now ≤ 256) × ((k < length transmissions.now) × (l < length transmissions.now))) }
-    ensures { result ≡ max (gap_of (conflict model.now) transmissions.now (λ i. slice_index steps.now i) l k) widest }
+    ensures { result ≡ max (gap_of (M.conflict model.now) transmissions.now (λ i. slice_index steps.now i) l k) widest }
 {
     let gap = steps[l].saturating_sub(steps[k]);
     if gap > widest && model.conflicts(transmissions[k], transmissions[l]) {
@@ -35,7 +35,7 @@ fn widest_to<M: Interference>(
     least: u16,
 ) -> u16
     requires { (length steps.now ≡ 256) × ((length transmissions.now ≤ 256) × (l < length transmissions.now)) }
-    ensures { result ≡ max (most_below (gap_of (conflict model.now) transmissions.now (λ i. slice_index steps.now i) l) (length transmissions.now)) least }
+    ensures { result ≡ max (most_below (gap_of (M.conflict model.now) transmissions.now (λ i. slice_index steps.now i) l) (length transmissions.now)) least }
 {
     let mut widest = least;
     for k in 0..transmissions.len() {
@@ -51,7 +51,7 @@ pub(crate) fn widest<M: Interference>(
     steps: &[u16],
 ) -> u16
     requires { (length steps.now ≡ 256) × (length transmissions.now ≤ 256) }
-    ensures { result ≡ most_below (λ l. most_below (gap_of (conflict model.now) transmissions.now (λ i. slice_index steps.now i) l) (length transmissions.now)) (length transmissions.now) }
+    ensures { result ≡ most_below (λ l. most_below (gap_of (M.conflict model.now) transmissions.now (λ i. slice_index steps.now i) l) (length transmissions.now)) (length transmissions.now) }
 {
     let mut most = 0;
     for l in 0..transmissions.len() {

@@ -8,7 +8,7 @@ use Rattle.routing.specs.Tree.{routes_of, slot_table, tree_fault}
 use Rattle.std.proofs.lemmas.List.{length-replicate}
 use Rattle.std.proofs.ByRecursion.{sum_by_le}
 use Rattle.std.specs.Option.{option_map}
-use Rattle.std.specs.List.{AllByRecursion as All}
+use Rattle.std.specs.List.{AllByRecursion}
 
 or_else_none : {X : Type 0} (a b : Option X) → or_else a b ≡ None → (a ≡ None) × (b ≡ None)
 or_else_none None b e = (refl, e)
@@ -19,11 +19,11 @@ mapped_none f None e = refl
 mapped_none f (Some x) e = let z : ◌≡◌ {A = ℕ} 0 1 = cc in absurd (omega arith)
 
 module _ (n : ℕ) (ls : List TreeLink) (few : n ≤ 64) (good : tree_fault n ls ≡ None) where
-  indexes : All Indexes ls
+  indexes : AllByRecursion Indexes ls
   indexes = all_index n ls few (mapped_none _ _ (or_else_none _ _ (or_else_none _ _ good).1).0)
 
   module _ (routes : Routes) (is : routes ≡ routes_of ls) where
-    pub parents-below : All (λ p. p < 64) routes.parents
+    pub parents-below : AllByRecursion (λ p. p < 64) routes.parents
     parents-below = rw is (parents_index ls indexes)
 
     pub slots-within : sum routes.slots ≤ 256

@@ -16,7 +16,7 @@ use Rattle.std.proofs.lemmas.List.{at_drop_all, at_drop_more, drop-drop, drop-se
 use Rattle.std.proofs.lemmas.List.Sums.{get_or-le-sum_by, sum_by-set}
 use Rattle.std.proofs.lemmas.Bool.{and_from, and_parts, cases_Bool, eq-eqb, ltb-true, not-true}
 use Rattle.std.proofs.lemmas.Bool.Decides.{nat_tests}
-use Rattle.std.specs.List.{range_with_len, AllByRecursion as All}
+use Rattle.std.specs.List.{range_with_len, AllByRecursion}
 use Rattle.std.specs.List.Sorted.{IsPermutation}
 
 pub deeper_order : Order deeper
@@ -63,7 +63,7 @@ module _ (conflict : Transmission → Transmission → Bool) (parents : List ℕ
     pub held : length places ≡ 64
     pub few : waiting ≤ 64
     pub heaped : Heap deeper (take waiting places)
-    pub able : All (Able (so_far size out left)) (take waiting places)
+    pub able : AllByRecursion (Able (so_far size out left)) (take waiting places)
     pub leads : join_all conflict parents (ranked deeper (take waiting places)) (so_far size out left) ≡ goal
     pub long : length out ≡ length first
     pub room : size ≤ length first
@@ -117,7 +117,7 @@ module _ {conflict : Transmission → Transmission → Bool} {parents : List ℕ
     (was : Joining conflict parents goal first start places waiting size out left) where
   -- c comes out of the queue
   module _ {after : List Candidate} (c : Candidate) (taken : Popped deeper c waiting places after) (same : length after ≡ length places) where
-    others : All (Able conflict parents (so_far conflict parents size out left)) (c ∷ take (waiting - 1) after)
+    others : AllByRecursion (Able conflict parents (so_far conflict parents size out left)) (c ∷ take (waiting - 1) after)
     others = all_shuffled (Able conflict parents (so_far conflict parents size out left)) _ _ taken.holds was.able
 
     next : join_all conflict parents (ranked deeper (take (waiting - 1) after)) (join conflict parents c (so_far conflict parents size out left)) ≡ goal
@@ -195,7 +195,7 @@ module _ {conflict : Transmission → Transmission → Bool} {parents : List ℕ
       used = was.kept;
     }
 
-all_kept : {X : Type 0} (P : X → Type 0) (test : X → Bool) (xs : List X) → All (λ x. test x ≡ true → P x) xs → All P (filter test xs)
+all_kept : {X : Type 0} (P : X → Type 0) (test : X → Bool) (xs : List X) → AllByRecursion (λ x. test x ≡ true → P x) xs → AllByRecursion P (filter test xs)
 all_kept P test [] each = tt
 all_kept P test (x ∷ xs) each =
     ⊎_elim

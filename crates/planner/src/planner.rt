@@ -1,7 +1,7 @@
 ghost use Rattle.std.specs.Prelude.{◌≡◌, ◌<◌, ◌≤◌, length, sum};
 ghost use Rattle.planner.specs.Filled.{StepsFilled};
 ghost use Rattle.planner.specs.Planner.{PlanDone, steps_from};
-ghost use Rattle.std.specs.List.{AllByRecursion as All};
+ghost use Rattle.std.specs.List.{AllByRecursion};
 
 use crate::fault::PlanFault;
 use crate::step::fill_step;
@@ -36,8 +36,8 @@ fn fill_steps<M: Interference>(
     transmissions: &mut [Transmission],
     counts: &mut [u16],
 ) -> PlanSize
-    requires { (256 ≤ length transmissions.old) × ((256 ≤ length counts.old) × ((sum routes.now.slots ≤ 256) × (All (λ p. p < 64) routes.now.parents))) }
-    ensures { StepsFilled (steps_from (conflict model.now) (nodes model.now) routes.now 256 routes.now.slots) transmissions.old counts.old transmissions.new counts.new result }
+    requires { (256 ≤ length transmissions.old) × ((256 ≤ length counts.old) × ((sum routes.now.slots ≤ 256) × (AllByRecursion (λ p. p < 64) routes.now.parents))) }
+    ensures { StepsFilled (steps_from (M.conflict model.now) (M.nodes model.now) routes.now 256 routes.now.slots) transmissions.old counts.old transmissions.new counts.new result }
 {
     let mut left = routes.slots;
     let mut remaining = total_slots(&routes.slots);
@@ -63,7 +63,7 @@ pub fn plan<M: Interference>(
     transmissions: &mut [Transmission],
     counts: &mut [u16],
 ) -> Result<PlanSize, PlanFault>
-    ensures { PlanDone (nodes model.now) (conflict model.now) tree.now transmissions.old counts.old transmissions.new counts.new result }
+    ensures { PlanDone (M.nodes model.now) (M.conflict model.now) tree.now transmissions.old counts.old transmissions.new counts.new result }
 {
     let routes = read_tree(model, tree)?;
     if transmissions.len() < 256 || counts.len() < 256 {

@@ -2,7 +2,7 @@ ghost use Rattle.std.specs.Prelude.{◌≡◌, ℕ, ◌<◌, ◌≤◌, false, l
 ghost use Rattle.planner.specs.Planner.{candidates, deeper, is_awaiting};
 ghost use Rattle.queue.specs.Heap.{Heap};
 ghost use Rattle.std.specs.List.Sorted.{IsPermutation};
-ghost use Rattle.std.specs.List.{AllByRecursion as All};
+ghost use Rattle.std.specs.List.{AllByRecursion};
 
 use crate::candidate::Candidate;
 use queue::push;
@@ -10,7 +10,7 @@ use routing::routes::Routes;
 
 /// For each node, whether a child of it has slots left.
 fn awaiting_table(parents: &[u8], left: &[u8], n: usize) -> [bool; 64]
-    requires { (n ≤ length parents.now) × ((n ≤ length left.now) × (All (λ p. p < 64) parents.now)) }
+    requires { (n ≤ length parents.now) × ((n ≤ length left.now) × (AllByRecursion (λ p. p < 64) parents.now)) }
     ensures { (v : ℕ) → v < 64 → slice_index_or result v false ≡ is_awaiting parents.now left.now n v }
 {
     let mut table = [false; 64];
@@ -24,7 +24,7 @@ fn awaiting_table(parents: &[u8], left: &[u8], n: usize) -> [bool; 64]
 
 /// Puts every node that may transmit into an empty queue, and answers how many there are.
 pub(crate) fn gather(routes: &Routes, left: &[u8], n: usize, places: &mut [Candidate]) -> usize
-    requires { (n ≤ 64) × ((n ≤ length left.now) × ((n ≤ length places.old) × (All (λ p. p < 64) routes.now.parents))) }
+    requires { (n ≤ 64) × ((n ≤ length left.now) × ((n ≤ length places.old) × (AllByRecursion (λ p. p < 64) routes.now.parents))) }
     ensures within { result ≤ length places.new }
     ensures heaped { Heap deeper (take result places.new) }
     ensures holds { IsPermutation (candidates routes.now left.now n) (take result places.new) }

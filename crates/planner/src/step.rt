@@ -1,7 +1,7 @@
 ghost use Rattle.std.specs.Prelude.{◌≡◌, ◌<◌, ◌≤◌, length, sum};
 ghost use Rattle.planner.specs.Filled.{StepFilled};
 ghost use Rattle.planner.specs.Planner.{is_free, step_from};
-ghost use Rattle.std.specs.List.{AllByRecursion as All};
+ghost use Rattle.std.specs.List.{AllByRecursion};
 
 use crate::candidate::Candidate;
 use crate::ready::gather;
@@ -12,7 +12,7 @@ use routing::routes::Routes;
 
 /// Whether the transmission conflicts with none of these.
 fn is_free<M: Interference>(model: &M, sent: &[Transmission], t: Transmission) -> bool
-    ensures { result ≡ is_free (conflict model.now) sent.now t }
+    ensures { result ≡ is_free (M.conflict model.now) sent.now t }
 {
     for s in sent {
         if model.conflicts(*s, t) {
@@ -30,8 +30,8 @@ pub(crate) fn fill_step<M: Interference>(
     left: &mut [u8],
     out: &mut [Transmission],
 ) -> usize
-    requires { (length left.old ≡ 64) × ((sum left.old ≤ length out.old) × (All (λ p. p < 64) routes.now.parents)) }
-    ensures { StepFilled (step_from (conflict model.now) (nodes model.now) routes.now left.old) out.old left.old out.new left.new result }
+    requires { (length left.old ≡ 64) × ((sum left.old ≤ length out.old) × (AllByRecursion (λ p. p < 64) routes.now.parents)) }
+    ensures { StepFilled (step_from (M.conflict model.now) (M.nodes model.now) routes.now left.old) out.old left.old out.new left.new result }
 {
     let mut places = [Candidate { depth: 0, node: 0 }; 64];
     let mut waiting = gather(routes, left, model.nodes() as usize, &mut places);

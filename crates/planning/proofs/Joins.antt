@@ -12,7 +12,7 @@ use Rattle.std.proofs.lemmas.List.{get_or_append_left, get_or_past, get_or_push,
 use Rattle.std.proofs.lemmas.List.Sums.{sum_by-cons, sum_by_push, sum_by-set}
 use Rattle.std.proofs.lemmas.Bool.{and_parts, cases_Bool, cases_eq, cases_lt, cond-false, cond-true, eq-eqb, ne_eqb, not-true}
 use Rattle.std.proofs.lemmas.Bool.Decides.{nat_tests}
-use Rattle.std.specs.List.{AllByRecursion as All}
+use Rattle.std.specs.List.{AllByRecursion}
 
 -- a place that holds something lies within the list
 pub place_within : (xs : List ℕ) (v : ℕ) → 0 < get_or xs v 0 → v < length xs
@@ -73,7 +73,7 @@ module _ (conflict : Transmission → Transmission → Bool) where
 
   -- what is kept while a step is filled
   pub record Filled (parents start : List ℕ) (n : ℕ) (f : Filling) : Type 0 where
-    pub senders : All (Joining parents start n) f.sent
+    pub senders : AllByRecursion (Joining parents start n) f.sent
     pub slots : (v : ℕ) → get_or f.left v 0 + sent_by f.sent v ≡ get_or start v 0
     pub whole : length f.sent + sum f.left ≡ sum start
     pub apart : Apart f.sent
@@ -134,7 +134,7 @@ module _ (conflict : Transmission → Transmission → Bool) where
           (λ (not : is_free conflict f.sent (to_parent parents c.node) ≡ false). rw not was)
           (cases_Bool (is_free conflict f.sent (to_parent parents c.node)))
 
-      pub all-joined : (cs : List Candidate) (f : Filling) → All (λ c. Ready parents start n c.node) cs
+      pub all-joined : (cs : List Candidate) (f : Filling) → AllByRecursion (λ c. Ready parents start n c.node) cs
           → Filled parents start n f → Filled parents start n (join_all conflict parents cs f)
       all-joined [] f each was = was
       all-joined (c ∷ cs) f each was = all-joined cs (join conflict parents c f) each.1 (joins-or-not c f each.0 was)

@@ -14,7 +14,7 @@ use Rattle.std.proofs.ByRecursion.{All-append, All-get_or, All-weaker}
 use Rattle.std.proofs.lemmas.List.{get_or_append_left, get_or-append_right, length-append}
 use Rattle.std.proofs.lemmas.List.Sums.{get_or-le-sum_by, sum_by-append, sum_by-cons}
 use Rattle.std.proofs.lemmas.Bool.{and_from, and_parts, both_ways, cases_lt, eq-eqb, le-ltb, lt-ltb, ne_eqb, not-true}
-use Rattle.std.specs.List.{AllByRecursion as All}
+use Rattle.std.specs.List.{AllByRecursion}
 
 -- ---- places of the first step, and of the later ones
 
@@ -59,7 +59,7 @@ Sender parents left n t = (t.from < n) × (0 < get_or left t.from 0) × (t.to �
 module _ (conflict : Transmission → Transmission → Bool) (parents : List ℕ) (n : ℕ) where
   -- steps that use up these slots
   pub record Planned (left : List ℕ) (steps : List (List Transmission)) : Type 0 where
-    pub senders : All (Sender parents left n) (flat steps)
+    pub senders : AllByRecursion (Sender parents left n) (flat steps)
     pub apart : (j k : ℕ) → j < k → k < length (flat steps) → step_of (sizes steps) j ≡ step_of (sizes steps) k
         → conflict (transmission_at (flat steps) j) (transmission_at (flat steps) k) ≡ false
     pub slots : (v : ℕ) → sent_by (flat steps) v ≡ get_or left v 0
@@ -74,7 +74,7 @@ module _ (conflict : Transmission → Transmission → Bool) (parents : List ℕ
   planned_none left steps empty none =
       let short : length (flat steps) ≡ 0 = ap length empty in
       record {
-        senders = subst (All (Sender parents left n)) (sym empty) tt;
+        senders = subst (AllByRecursion (Sender parents left n)) (sym empty) tt;
         apart = λ j k before below same. absurd (omega arith);
         slots = λ v. ⊎_elim
             (λ (some : 0 < get_or left v 0). absurd (omega (arith, get_or-le-sum_by (λ x. x) left v 0 (place_within left v some))))
@@ -85,7 +85,7 @@ module _ (conflict : Transmission → Transmission → Bool) (parents : List ℕ
 
   module _ (left : List ℕ) (f : Filling) (rest : List (List Transmission))
       (step : Filled conflict parents left n f) (later : Planned f.left rest) where
-    more-senders : All (Sender parents left n) (f.sent ++ flat rest)
+    more-senders : AllByRecursion (Sender parents left n) (f.sent ++ flat rest)
     more-senders =
         All-append (Sender parents left n) f.sent (flat rest)
         (All-weaker (Joining parents left n) (Sender parents left n)

@@ -15,13 +15,13 @@ use Rattle.std.proofs.lemmas.List.Sums.{get_or-le-sum_by}
 use Rattle.std.proofs.lemmas.Bool.{cases_eq, cases_lt, eqb-true, ne_eqb, not-false}
 use Rattle.std.proofs.lemmas.Bool.Decides.{nat_tests}
 use Rattle.std.specs.Option.{option_map}
-use Rattle.std.specs.List.{AllByRecursion as All}
+use Rattle.std.specs.List.{AllByRecursion}
 
 -- ---- tables
 
 -- what the children of all records keep, each node with an entry keeps
 entered_from : (X : ℕ → Type 0) (value : TreeLink → ℕ) (ls : List TreeLink) (table : List ℕ) (v : ℕ)
-    → All (λ l. X l.child) ls
+    → AllByRecursion (λ l. X l.child) ls
     → (0 < get_or table v 0 → X v) → 0 < get_or (entered value ls table) v 0 → X v
 entered_from X value [] table v each start h = start h
 entered_from X value (l ∷ ls) table v each start h =
@@ -33,7 +33,7 @@ entered_from X value (l ∷ ls) table v each start h =
 
 -- an entry above 0 stays above 0 while such are written
 entered_keeps : (value : TreeLink → ℕ) (ls : List TreeLink) (table : List ℕ) (v : ℕ) → v < length table
-    → All (λ l. 0 < value l) ls → 0 < get_or table v 0 → 0 < get_or (entered value ls table) v 0
+    → AllByRecursion (λ l. 0 < value l) ls → 0 < get_or table v 0 → 0 < get_or (entered value ls table) v 0
 entered_keeps value [] table v h each some = some
 entered_keeps value (l ∷ ls) table v h each some =
     let long = length-set table l.child (value l) in
@@ -43,7 +43,7 @@ entered_keeps value (l ∷ ls) table v h each some =
 
 -- a record's entry makes the sum more than 0
 entered_some : (value : TreeLink → ℕ) (ls : List TreeLink) (table : List ℕ) → 0 < length ls
-    → All (λ l. l.child < length table) ls → All (λ l. 0 < value l) ls → 0 < sum (entered value ls table)
+    → AllByRecursion (λ l. l.child < length table) ls → AllByRecursion (λ l. 0 < value l) ls → 0 < sum (entered value ls table)
 entered_some value [] table h within each = absurd (omega arith)
 entered_some value (l ∷ ls) table h within each =
     let below = within.0 in
@@ -142,7 +142,7 @@ module _ (n : ℕ) (ls : List TreeLink) (sound : tree_fault n ls ≡ None) where
   abbrev pub OnTree : ℕ → Type 0
   OnTree v = (v < n) × (0 < v) × (is_some (way ls v) ≡ true)
 
-  all_on_tree : All (λ l. OnTree l.child) ls
+  all_on_tree : AllByRecursion (λ l. OnTree l.child) ls
   all_on_tree =
       All-from_get_or (λ l. OnTree l.child) ls (record { child = 0; parent = 0; slots = 0 })
       (λ k h.

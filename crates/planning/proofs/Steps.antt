@@ -14,15 +14,15 @@ use Rattle.std.proofs.ByRecursion.{All-from_get_or, all_kept_by, All-map, kept_b
 use Rattle.std.proofs.lemmas.List.{length-map}
 use Rattle.std.proofs.lemmas.List.Sums.{get_or-le-sum_by, length-filter}
 use Rattle.std.proofs.lemmas.Bool.{cond-true}
-use Rattle.std.specs.List.{range_with_len, AllByRecursion as All}
+use Rattle.std.specs.List.{range_with_len, AllByRecursion}
 
 -- ---- the candidates of a step
 
-all_both : {X : Type 0} (P Q : X → Type 0) (xs : List X) → All P xs → All Q xs → All (λ x. P x × Q x) xs
+all_both : {X : Type 0} (P Q : X → Type 0) (xs : List X) → AllByRecursion P xs → AllByRecursion Q xs → AllByRecursion (λ x. P x × Q x) xs
 all_both P Q [] p q = tt
 all_both P Q (x ∷ xs) p q = ((p.0, q.0), all_both P Q xs p.1 q.1)
 
-all_counting : (n : ℕ) → All (λ v. v < n) (range_with_len 0 n)
+all_counting : (n : ℕ) → AllByRecursion (λ v. v < n) (range_with_len 0 n)
 all_counting n =
     All-from_get_or (λ v. v < n) (range_with_len 0 n) 0
     (λ i h. let long = length-range_with_len 0 n in let at = get_or-range_with_len 0 n i 0 (omega arith) in omega arith)
@@ -35,7 +35,7 @@ some_kept p n v h passes =
     omega (arith, get_or-le-sum_by (λ x. cond (p x) 1 0) (range_with_len 0 n) v 0 (omega arith), length-filter p (range_with_len 0 n))
 
 module _ (routes : Routes) (left : List ℕ) (n : ℕ) where
-  pub candidates_ready : All (λ (c : Candidate). Ready routes.parents left n c.node) (candidates routes left n)
+  pub candidates_ready : AllByRecursion (λ (c : Candidate). Ready routes.parents left n c.node) (candidates routes left n)
   candidates_ready =
       let ready : ℕ → Bool = is_ready routes.parents left n in
       All-map (λ (c : Candidate). Ready routes.parents left n c.node) (candidate_of routes.depths)

@@ -22,8 +22,8 @@ pub fn make_plan<M: Interference>(
     tree: &[TreeLink],
     model: &M,
 ) -> Result<(), TreeFault>
-    ensures made { Made (nodes model.now) (conflict model.now) tree.now (plan_of place.old) (plan_of place.new) result }
-    ensures always { tree_fault (nodes model.now) tree.now ≡ None → PlanApproved (nodes model.now) (conflict model.now) tree.now }
+    ensures made { Made (M.nodes model.now) (M.conflict model.now) tree.now (plan_of place.old) (plan_of place.new) result }
+    ensures always { tree_fault (M.nodes model.now) tree.now ≡ None → PlanApproved (M.nodes model.now) (M.conflict model.now) tree.now }
 {
     let mut transmissions = [Transmission { from: 0, to: 0 }; 256];
     let mut counts = [0; 256];

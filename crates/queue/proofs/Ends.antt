@@ -1,7 +1,7 @@
 -- What `push` and `pop` put together from a sift. Assumes nothing.
 use Rattle.std.proofs.Common.{◌≡◌, ℕ, zero, suc, ◌+◌, ◌-◌, ◌/◌, ◌<◌, ◌≤◌, Bool, false, List, [], ◌∷◌, ◌++◌, length, get_or, take, drop, set, sym, refl, ap, ◌∙◌, ⊎_elim, arith}
 use Rattle.std.specs.List.Sorted.{IsPermutation}
-use Rattle.std.specs.List.{ContainsAt as Has}
+use Rattle.std.specs.List.{ContainsAt}
 use Rattle.std.proofs.Permutation.{which}
 use Rattle.std.proofs.ByRecursion.{All-from_get_or, all-has, has_shuffled}
 use Rattle.std.proofs.lemmas.List.{length-take, length_push, get_or_append_left, get_or-take, take_more, take_more_set, take-append-le, take_at, take_all, drop_at, drop-set-lt}
@@ -50,7 +50,7 @@ module _ {X : Type 0} (before : X → X → Bool) where
     first xs x e h = All-from_get_or (λ y. before y x ≡ false) xs x (λ k f. ap (before (get_or xs k x)) e ∙ top xs x h k k (omega arith) f)
 
     -- of two elements that rank first, each is the other
-    pub only : (xs : List X) (x y : X) → Has xs x → Has xs y → First before x xs → First before y xs → y ≡ x
+    pub only : (xs : List X) (x y : X) → ContainsAt xs x → ContainsAt xs y → First before x xs → First before y xs → y ≡ x
     only xs x y hx hy fx fy = o.total y x
         (all-has (λ z. before z x ≡ false) xs y fx hy)
         (all-has (λ z. before z y ≡ false) xs x fy hx)

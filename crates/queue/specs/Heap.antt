@@ -5,14 +5,14 @@
 --     Sinking before xs j    a heap, but that a child of j may rank before the element at j
 use Rattle.std.specs.Prelude.{◌≡◌, ℕ, ◌+◌, ◌-◌, ◌*◌, ◌/◌, ◌<◌, ◌≤◌, Bool, false, List, ◌∷◌, length, take, drop, ◌≢◌, slice_index_or}
 use Rattle.std.specs.List.Sorted.{IsPermutation}
-use Rattle.std.specs.List.{ContainsAt as Has, AllByRecursion as All}
+use Rattle.std.specs.List.{ContainsAt, AllByRecursion}
 
 module _ {X : Type 0} (before : X → X → Bool) where
   abbrev pub Heap : List X → Type 0
   Heap xs = (k : ℕ) (d : X) → k + 1 < length xs → before (slice_index_or xs (k + 1) d) (slice_index_or xs (k / 2) d) ≡ false
 
   abbrev pub First : X → List X → Type 0
-  First x xs = All (λ y. before y x ≡ false) xs
+  First x xs = AllByRecursion (λ y. before y x ≡ false) xs
 
   -- no child of j ranks before the element at c
   abbrev pub Best : List X → ℕ → ℕ → Type 0
@@ -44,6 +44,6 @@ module _ {X : Type 0} (before : X → X → Bool) where
     pub holds : IsPermutation (take n xs) (x ∷ take (n - 1) ys)
     pub first : Heap (take n xs) → First x (take n xs)
     -- any other element that ranks first is x
-    pub only : Heap (take n xs) → (y : X) → Has (take n xs) y → First y (take n xs) → y ≡ x
+    pub only : Heap (take n xs) → (y : X) → ContainsAt (take n xs) y → First y (take n xs) → y ≡ x
     pub heaped : Heap (take n xs) → Heap (take (n - 1) ys)
     pub rest : drop n ys ≡ drop n xs

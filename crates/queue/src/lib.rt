@@ -18,7 +18,7 @@ pub trait Rank: Copy {
 // Whether the element at i ranks before the one at j.
 fn precedes_at<T: Rank>(places: &[T], i: usize, j: usize) -> bool
     requires { (i < length places.now) × (j < length places.now) }
-    ensures { (d : T) → before (slice_index_or places.now i d) (slice_index_or places.now j d) ≡ result }
+    ensures { (d : T) → T.before (slice_index_or places.now i d) (slice_index_or places.now j d) ≡ result }
 {
     places[i].precedes(&places[j])
 }
@@ -27,7 +27,7 @@ fn precedes_at<T: Rank>(places: &[T], i: usize, j: usize) -> bool
 fn first_child<T: Rank>(places: &[T], at: usize) -> usize
     requires { at * 2 + 1 < length places.now }
     ensures child { (at * 2 + 1 ≤ result) × (result ≤ at * 2 + 2) × (result < length places.now) }
-    ensures best { Best before places.now at result }
+    ensures best { Best T.before places.now at result }
 {
     let left = at * 2 + 1;
     let right = left + 1;
@@ -45,7 +45,7 @@ fn first_child<T: Rank>(places: &[T], at: usize) -> usize
 fn sift_up<T: Rank>(places: &mut [T], mut at: usize)
     requires { at < length places.old }
     ensures shuffled { IsPermutation places.old places.new }
-    ensures heaped { Rising before places.old at → Heap before places.new }
+    ensures heaped { Rising T.before places.old at → Heap T.before places.new }
 {
     while 0 < at && precedes_at(places, at, (at - 1) / 2) {
         places.swap((at - 1) / 2, at);
@@ -56,7 +56,7 @@ fn sift_up<T: Rank>(places: &mut [T], mut at: usize)
 // Moves the element at `at` down past the children that rank before it.
 fn sift_down<T: Rank>(places: &mut [T], mut at: usize)
     ensures shuffled { IsPermutation places.old places.new }
-    ensures heaped { Sinking before places.old at → Heap before places.new }
+    ensures heaped { Sinking T.before places.old at → Heap T.before places.new }
 {
     while at < places.len() / 2 {
         let child = first_child(places, at);
@@ -72,8 +72,8 @@ fn sift_down<T: Rank>(places: &mut [T], mut at: usize)
 fn take_first<T: Rank>(places: &mut [T]) -> T
     requires { 0 < length places.old }
     ensures holds { IsPermutation places.old (result ∷ take (length places.old - 1) places.new) }
-    ensures first { Heap before places.old → First before result places.old }
-    ensures heaped { Heap before places.old → Heap before (take (length places.old - 1) places.new) }
+    ensures first { Heap T.before places.old → First T.before result places.old }
+    ensures heaped { Heap T.before places.old → Heap T.before (take (length places.old - 1) places.new) }
 {
     let last = places.len() - 1;
     let first = places[0];
@@ -88,8 +88,8 @@ pub struct Full;
 
 /// Puts `x` into the queue that the first `len` places hold, which then has `len + 1`.
 pub fn push<T: Rank>(places: &mut [T], len: usize, x: T) -> Result<(), Full>
-    ensures pushed { MatchResult result (λ _. Pushed before x len places.old places.new) (λ _. (length places.old ≤ len) × (places.new ≡ places.old)) }
-    ensures ranked { OnOk result (ranked before (take (len + 1) places.new) ≡ placed before x (ranked before (take len places.old))) }
+    ensures pushed { MatchResult result (λ _. Pushed T.before x len places.old places.new) (λ _. (length places.old ≤ len) × (places.new ≡ places.old)) }
+    ensures ranked { OnOk result (ranked T.before (take (len + 1) places.new) ≡ placed T.before x (ranked T.before (take len places.old))) }
 {
     if places.len() <= len {
         return Err(Full);
@@ -102,8 +102,8 @@ pub fn push<T: Rank>(places: &mut [T], len: usize, x: T) -> Result<(), Full>
 /// Takes what ranks first out of the queue that the first `len` places hold, which then has `len - 1`.
 /// Nothing comes out of an empty queue, nor where there are fewer than `len` places.
 pub fn pop<T: Rank>(places: &mut [T], len: usize) -> Option<T>
-    ensures popped { MatchOption result (((len ≡ 0) ⊎ (length places.old < len)) × (places.new ≡ places.old)) (λ x. Popped before x len places.old places.new) }
-    ensures ranked { IfSome result (λ x. Heap before (take len places.old) → ranked before (take len places.old) ≡ x ∷ ranked before (take (len - 1) places.new)) }
+    ensures popped { MatchOption result (((len ≡ 0) ⊎ (length places.old < len)) × (places.new ≡ places.old)) (λ x. Popped T.before x len places.old places.new) }
+    ensures ranked { IfSome result (λ x. Heap T.before (take len places.old) → ranked T.before (take len places.old) ≡ x ∷ ranked T.before (take (len - 1) places.new)) }
 {
     if len == 0 || places.len() < len {
         return None;

@@ -8,7 +8,7 @@ use Rattle.routing.specs.Tree.{bad_link, by_node, depth_table, hops, link_at, pa
 use Rattle.routing.proofs.Trees.{Indexes, all_index, parents_index}
 use Rattle.std.proofs.ByRecursion.{All-weaker}
 use Rattle.std.proofs.lemmas.Bool.{eq-eqb}
-use Rattle.std.specs.List.{AllByRecursion as All}
+use Rattle.std.specs.List.{AllByRecursion}
 
 -- what the search for a way finds, along a table of parents
 abbrev pub lost : List ℕ → List TreeLink → Option ℕ
@@ -23,14 +23,14 @@ module _ (n : ℕ) (ls : List TreeLink) (sized : length ls + 1 ≡ n) where
     pub repeated-fault : (k : ℕ) → Some k ≡ first_below (repeated_at ls) (length ls) → tree_fault n ls ≡ Some (Repeated k)
     repeated-fault k found = rw (eq-eqb (length ls + 1) n sized, ← ranged, ← found) refl
 
-    pub indexes : n ≤ 64 → All Indexes ls
+    pub indexes : n ≤ 64 → AllByRecursion Indexes ls
     indexes few = all_index n ls few (sym ranged)
 
-    pub children : n ≤ 64 → All (λ l. l.child < 64) ls
+    pub children : n ≤ 64 → AllByRecursion (λ l. l.child < 64) ls
     children few = All-weaker Indexes (λ l. l.child < 64) (λ l h. h.0) ls (indexes few)
 
     pub walkable : n ≤ 64 → (parents : List ℕ) → parents ≡ parent_table ls
-        → (length ls < 64) × (All (λ p. p < 64) parents × All (λ l. l.child < 64) ls)
+        → (length ls < 64) × (AllByRecursion (λ p. p < 64) parents × AllByRecursion (λ l. l.child < 64) ls)
     walkable few parents is = (omega arith, (rw is (parents_index ls (indexes few)), children few))
 
     module _ (distinct : None ≡ first_below (repeated_at ls) (length ls)) (parents : List ℕ) (is : parents ≡ parent_table ls) where

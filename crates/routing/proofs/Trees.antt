@@ -9,7 +9,7 @@ use Rattle.std.proofs.lemmas.List.{at_drop_all, at_drop_more, length-set}
 use Rattle.std.proofs.lemmas.Bool.{eq-eqb, ne_eqb}
 use Rattle.std.proofs.lemmas.Bool.Decides.{nat_tests}
 use Rattle.std.specs.Option.{option_map}
-use Rattle.std.specs.List.{AllByRecursion as All}
+use Rattle.std.specs.List.{AllByRecursion}
 
 -- a record whose numbers index the tables
 abbrev pub Indexes : TreeLink → Type 0
@@ -19,12 +19,12 @@ bad_not : (n : ℕ) (l : TreeLink) → n ≤ 64 → bad_link n l ≡ false → I
 bad_not n l few good = (grind (arith, nat_tests), grind (arith, nat_tests), grind (arith, nat_tests))
 
 pub all_index : (n : ℕ) (ls : List TreeLink) → n ≤ 64 → first_below (λ k. bad_link n (link_at ls k)) (length ls) ≡ None
-    → All Indexes ls
+    → AllByRecursion Indexes ls
 all_index n ls few none =
     All-from_get_or Indexes ls (record { child = 0; parent = 0; slots = 0 })
     (λ i h. bad_not n (link_at ls i) few (first_none (λ k. bad_link n (link_at ls k)) (length ls) i none h))
 
-pub child_index : (ls : List TreeLink) (i : ℕ) → All (λ l. l.child < 64) ls → i < length ls → (link_at ls i).child < 64
+pub child_index : (ls : List TreeLink) (i : ℕ) → AllByRecursion (λ l. l.child < 64) ls → i < length ls → (link_at ls i).child < 64
 child_index ls i each h = All-get_or (λ l. l.child < 64) ls i (record { child = 0; parent = 0; slots = 0 }) h each
 
 -- one record more in a table
@@ -41,21 +41,21 @@ enter_all value ls table all i h e = sym (at_drop_all (λ rest. entered value re
 
 -- what all values of a table keep
 pub all_entered : (P : ℕ → Type 0) (value : TreeLink → ℕ) (ls : List TreeLink) (table : List ℕ)
-    → All (λ l. P (value l)) ls → All P table → All P (entered value ls table)
+    → AllByRecursion (λ l. P (value l)) ls → AllByRecursion P table → AllByRecursion P (entered value ls table)
 all_entered P value [] table each start = start
 all_entered P value (l ∷ ls) table each start =
     all_entered P value ls (set table l.child (value l)) each.1 (All-set P table l.child (value l) each.0 start)
 
-all_replicate : (P : ℕ → Type 0) (n x : ℕ) → P x → All P (replicate n x)
+all_replicate : (P : ℕ → Type 0) (n x : ℕ) → P x → AllByRecursion P (replicate n x)
 all_replicate P zero x h = tt
 all_replicate P (suc n) x h = (h, all_replicate P n x h)
 
-pub parents_index : (ls : List TreeLink) → All Indexes ls → All (λ p. p < 64) (parent_table ls)
+pub parents_index : (ls : List TreeLink) → AllByRecursion Indexes ls → AllByRecursion (λ p. p < 64) (parent_table ls)
 parents_index ls each =
     all_entered (λ p. p < 64) (λ l. l.parent) ls (replicate 64 0)
     (All-weaker Indexes (λ l. l.parent < 64) (λ l h. h.1) ls each) (all_replicate (λ p. p < 64) 64 0 (omega arith))
 
-pub slots_few : (ls : List TreeLink) → All Indexes ls → All (λ k. k ≤ 4) (slot_table ls)
+pub slots_few : (ls : List TreeLink) → AllByRecursion Indexes ls → AllByRecursion (λ k. k ≤ 4) (slot_table ls)
 slots_few ls each =
     all_entered (λ k. k ≤ 4) (λ l. l.slots) ls (replicate 64 0)
     (All-weaker Indexes (λ l. l.slots ≤ 4) (λ l h. h.2) ls each) (all_replicate (λ k. k ≤ 4) 64 0 (omega arith))

@@ -18,7 +18,7 @@ pub struct Routes {
 
 /// The routes of a tree at the model's site, or the first reason to refuse the tree.
 pub fn read_tree<M: Interference>(model: &M, tree: &[TreeLink]) -> Result<Routes, TreeFault>
-    ensures { TreeRead (nodes model.now) tree.now result }
+    ensures { TreeRead (M.nodes model.now) tree.now result }
 {
     let n = model.nodes();
     if tree.len() + 1 != n as usize {

@@ -1,7 +1,7 @@
 ghost use Rattle.std.specs.Prelude.{◌≡◌, ℕ, ◌<◌, ◌≤◌, not, length, is_some};
 ghost use Rattle.routing.specs.Search.{first_below};
 ghost use Rattle.routing.specs.Tree.{bad_link, hops, link_at, repeated_at};
-ghost use Rattle.std.specs.List.{AllByRecursion as All};
+ghost use Rattle.std.specs.List.{AllByRecursion};
 
 use crate::link::TreeLink;
 
@@ -44,7 +44,7 @@ pub(crate) fn first_repeated(tree: &[TreeLink]) -> Option<usize>
 
 /// The hops from a node to the base station, where at most so many lead there.
 pub(crate) fn hops_of(parents: &[u8; 64], most: usize, node: u8) -> Option<u8>
-    requires { (most < 64) × ((node < 64) × (All (λ p. p < 64) parents.now)) }
+    requires { (most < 64) × ((node < 64) × (AllByRecursion (λ p. p < 64) parents.now)) }
     ensures { result ≡ hops parents.now most node }
 {
     let mut at = node;
@@ -59,7 +59,7 @@ pub(crate) fn hops_of(parents: &[u8; 64], most: usize, node: u8) -> Option<u8>
 
 /// The first record whose child has no way to the base station.
 pub(crate) fn first_unrooted(parents: &[u8; 64], tree: &[TreeLink]) -> Option<usize>
-    requires { (length tree.now < 64) × ((All (λ p. p < 64) parents.now) × (All (λ l. l.child < 64) tree.now)) }
+    requires { (length tree.now < 64) × ((AllByRecursion (λ p. p < 64) parents.now) × (AllByRecursion (λ l. l.child < 64) tree.now)) }
     ensures { result ≡ first_below (λ k. not (is_some (hops parents.now (length tree.now) (link_at tree.now k).child))) (length tree.now) }
 {
     for (i, link) in tree.iter().enumerate() {

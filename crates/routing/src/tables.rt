@@ -1,14 +1,14 @@
 ghost use Rattle.std.specs.Prelude.{◌≡◌, ℕ, ◌<◌, length};
 ghost use Rattle.routing.specs.Tree.{by_node, hops, parent_table, slot_table};
 ghost use Rattle.std.specs.Option.{unwrap_or};
-ghost use Rattle.std.specs.List.{AllByRecursion as All};
+ghost use Rattle.std.specs.List.{AllByRecursion};
 
 use crate::link::TreeLink;
 use crate::search::hops_of;
 
 /// Each node's parent.
 pub(crate) fn parent_table(tree: &[TreeLink]) -> [u8; 64]
-    requires { All (λ l. l.child < 64) tree.now }
+    requires { AllByRecursion (λ l. l.child < 64) tree.now }
     ensures { result ≡ parent_table tree.now }
 {
     let mut table = [0; 64];
@@ -20,7 +20,7 @@ pub(crate) fn parent_table(tree: &[TreeLink]) -> [u8; 64]
 
 /// Each node's slots in a round.
 pub(crate) fn slot_table(tree: &[TreeLink]) -> [u8; 64]
-    requires { All (λ l. l.child < 64) tree.now }
+    requires { AllByRecursion (λ l. l.child < 64) tree.now }
     ensures { result ≡ slot_table tree.now }
 {
     let mut table = [0; 64];
@@ -32,7 +32,7 @@ pub(crate) fn slot_table(tree: &[TreeLink]) -> [u8; 64]
 
 /// Each node's hops to the base station.
 pub(crate) fn depth_table(parents: &[u8; 64], tree: &[TreeLink]) -> [u8; 64]
-    requires { (length tree.now < 64) × ((All (λ p. p < 64) parents.now) × (All (λ l. l.child < 64) tree.now)) }
+    requires { (length tree.now < 64) × ((AllByRecursion (λ p. p < 64) parents.now) × (AllByRecursion (λ l. l.child < 64) tree.now)) }
     ensures { result ≡ by_node (λ l. unwrap_or (hops parents.now (length tree.now) l.child) 0) tree.now }
 {
     let mut table = [0; 64];

@@ -1,6 +1,6 @@
 -- One record after another, printed; and that the text packs to the file.
 use Rattle.std.proofs.Common.{◌≡◌, ℕ, ◌+◌, ◌^◌, ◌<◌, true, List, [], ◌∷◌, ◌++◌, length, get_or, drop, Ok, decimal, sym, refl, ap, ◌∙◌, subst, append_assoc, zero-add, arith, length-append}
-use Rattle.std.specs.List.{prefix_len, AllByRecursion as All}
+use Rattle.std.specs.List.{prefix_len, AllByRecursion}
 use Rattle.std.proofs.lemmas.List.{append-nil, take_at, drop_at, get_or-append-add, flat_map_more, length_push}
 use Rattle.std.proofs.ByRecursion.{All-push}
 use Rattle.std.proofs.lemmas.Bool.Decides.{nat_tests}
@@ -70,14 +70,14 @@ module _ (r : Record) (fits : Fits r) (t : List ℕ) where
       ∙ (λ i. line_first i ∷ lines_of (line_after i))
 
 -- the text of records packs to their bytes
-packs_lines : (n : ℕ) (rs : List Record) → All Fits rs → packed_from n (lines_of (text_of rs)) ≡ Ok (file_of rs)
+packs_lines : (n : ℕ) (rs : List Record) → AllByRecursion Fits rs → packed_from n (lines_of (text_of rs)) ≡ Ok (file_of rs)
 packs_lines n [] all = refl
 packs_lines n (r ∷ rs) all =
     ap (λ bs. packed_from n (lines_of bs)) (append_assoc (line_of r) (10 ∷ []) (text_of rs))
     ∙ ap (packed_from n) (line_lines r all.0 (text_of rs))
     ∙ (λ i. packed_line n (parses_back r all.0 i) (packs_lines (n + 1) rs all.1 i))
 
-pub packs_text : (rs : List Record) → All Fits rs → packed_of (text_of rs) ≡ Ok (file_of rs)
+pub packs_text : (rs : List Record) → AllByRecursion Fits rs → packed_of (text_of rs) ≡ Ok (file_of rs)
 packs_text = packs_lines 1
 
 -- text has the lines of the records that file begins with, and rest comes after their bytes
@@ -85,7 +85,7 @@ pub record Begun (file text rest : List ℕ) : Type 0 where
   pub rs : List Record
   pub front : file ≡ file_of rs ++ rest
   pub lines : text ≡ text_of rs
-  pub fit : All Fits rs
+  pub fit : AllByRecursion Fits rs
 
 pub begun_more : {file text rest : List ℕ} (now : List ℕ) (r : Record) (t : List ℕ) → ((i : ℕ) → get_or file i 0 < 256) → Begun file text rest → next_of rest ≡ Ok (r, t) → now ≡ text ++ (line_of r ++ (10 ∷ [])) → Begun file now t
 begun_more {file} {text} {rest} now r t bytes b next grown =
@@ -99,8 +99,8 @@ begun_more {file} {text} {rest} now r t bytes b next grown =
     }
 
 -- at the end of the file
-pub begun_all : {file text rest : List ℕ} → Begun file text rest → rest ≡ [] → (rs : List Record) × (file ≡ file_of rs) × (text ≡ text_of rs) × All Fits rs
+pub begun_all : {file text rest : List ℕ} → Begun file text rest → rest ≡ [] → (rs : List Record) × (file ≡ file_of rs) × (text ≡ text_of rs) × AllByRecursion Fits rs
 begun_all {file} {text} {rest} b none = (b.rs, b.front ∙ ap (λ bs. file_of b.rs ++ bs) none ∙ append-nil (file_of b.rs), b.lines, b.fit)
 
-pub packs_back : (file text : List ℕ) → (rs : List Record) × (file ≡ file_of rs) × (text ≡ text_of rs) × All Fits rs → packed_of text ≡ Ok file
+pub packs_back : (file text : List ℕ) → (rs : List Record) × (file ≡ file_of rs) × (text ≡ text_of rs) × AllByRecursion Fits rs → packed_of text ≡ Ok file
 packs_back file text (rs, e, f, all) = ap packed_of f ∙ packs_text rs all ∙ ap (λ l. Ok l) (sym e)

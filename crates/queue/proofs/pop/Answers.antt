@@ -4,11 +4,11 @@ use Rattle.queue.proofs.Ends as ends
 use Rattle.queue.proofs.Ranked as laws
 use Rattle.queue.proofs.pop.Goals as goal
 
-pub take-first-requires : goal.take-first-requires
-take-first-requires g c = simp length-take (omega arith)
+pub take_first-requires : goal.take_first-requires
+take_first-requires g c = simp length-take (omega arith)
 
 pub returns : goal.returns
 returns g c =
-    let took = c.take-first.ensures in
-    let popped = ends.popped _ g.met.T.Rank.order c.args.places.now c.take-first.new.places c.take-first.result c.args.len (c.args.len - 0) (omega arith) (omega arith) (omega arith) c.take-first.auto.places took.holds took.first took.heaped in
+    let took = c.take_first.ensures in
+    let popped = ends.popped _ g.met.T.Rank.order c.args.places.now c.take_first.new.places c.take_first.result c.args.len (c.args.len - 0) (omega arith) (omega arith) (omega arith) c.take_first.auto.places took.holds took.first took.heaped in
     record { popped = popped; ranked = λ heap. laws.popped-ranked _ g.met.T.Rank.order _ _ _ _ heap popped }

@@ -4,11 +4,11 @@ use Rattle.queue.proofs.Ends as ends
 use Rattle.queue.proofs.Ranked as laws
 use Rattle.queue.proofs.push.Goals as goal
 
-pub sift-up-requires : goal.sift-up-requires
-sift-up-requires g c = simp (length-take, length-set) (omega arith)
+pub sift_up-requires : goal.sift_up-requires
+sift_up-requires g c = simp (length-take, length-set) (omega arith)
 
 pub returns : goal.returns
 returns g c =
-    let sift = c.sift-up.ensures in
-    let pushed = ends.pushed _ c.args.places.now c.args.x c.args.len (c.args.len + 1 - 0) (omega arith) (omega arith) c.sift-up.new.places sift.shuffled sift.heaped in
+    let sift = c.sift_up.ensures in
+    let pushed = ends.pushed _ c.args.places.now c.args.x c.args.len (c.args.len + 1 - 0) (omega arith) (omega arith) c.sift_up.new.places sift.shuffled sift.heaped in
     record { pushed = pushed; ranked = laws.pushed-ranked _ g.met.T.Rank.order _ _ _ _ pushed }

@@ -6,9 +6,9 @@ pub returns : goal.returns
 returns g c =
     let xs = c.args.places.now in
     let ys = c.swap.new.self in
-    let zs = c.sift-down.new.places in
+    let zs = c.sift_down.new.places in
     let swap = c.swap.ensures in
-    let sift = c.sift-down.ensures in
+    let sift = c.sift_down.ensures in
     let same = ends.kept g.T.Rank.before xs ys (length xs - 1 - 0) c.requires (omega arith) swap.len swap.by_index.1 swap.by_index.2 zs sift.shuffled in
     record {
       holds = rw same (ends.taken g.T.Rank.before xs ys (length xs - 1 - 0) c.requires (omega arith) swap.len swap.by_index.1 swap.by_index.2 zs _ (cc) swap.permutation sift.shuffled);

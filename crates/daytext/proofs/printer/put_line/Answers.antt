@@ -5,8 +5,8 @@ use Rattle.daytext.proofs.printer.put_line.Goals as goal
 pub loop-n-init : goal.loop-n-init
 loop-n-init c = (wrote_none _ _, omega arith)
 
-pub put-number-at-requires : goal.put-number-at-requires
-put-number-at-requires c =
+pub put_number-at-requires : goal.put_number-at-requires
+put_number-at-requires c =
     let n = get_or c.args.numbers.now c.loop-n.n-index 0 in
     simp length-set (omega (arith, length_number n (omega arith)))
 
@@ -16,7 +16,7 @@ loop-n-preserved c =
     let short = length_number (get_or ns c.loop-n.n-index 0) (omega arith) in
     let wrote =
     wrote_number ns c.loop-n.n-index (omega arith) (omega arith) (omega arith) c.loop-n.invariant.0
-    (record { place = c.put-number-at.ensures.place; text = c.put-number-at.ensures.text })
+    (record { place = c.put_number-at.ensures.place; text = c.put_number-at.ensures.text })
     in
     (wrote, omega arith)
 

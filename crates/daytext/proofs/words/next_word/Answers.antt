@@ -3,6 +3,6 @@ use Rattle.daytext.proofs.words.next_word.Goals as goal
 
 pub returns : goal.returns
 returns c = record {
-  word = first_is c.args.bytes.now c.count-blanks-start.result c.count-word-size.result c.count-blanks-start.ensures.value c.count-word-size.ensures.value;
-  rest = after_is c.args.bytes.now c.count-blanks-start.result c.count-word-size.result c.count-blanks-start.ensures.value c.count-word-size.ensures.value;
+  word = first_is c.args.bytes.now c.count_blanks-start.result c.count_word-size.result c.count_blanks-start.ensures.value c.count_word-size.ensures.value;
+  rest = after_is c.args.bytes.now c.count_blanks-start.result c.count_word-size.result c.count_blanks-start.ensures.value c.count_word-size.ensures.value;
 }

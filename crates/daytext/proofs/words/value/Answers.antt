@@ -4,11 +4,11 @@ use Rattle.daytext.specs.Words.{value_after}
 use Rattle.daytext.proofs.Values.{value_not, value_large, value_next}
 use Rattle.daytext.proofs.words.value.Goals as goal
 
-pub returns-then-not-is-ascii-digit : goal.returns-then-not-is-ascii-digit
-returns-then-not-is-ascii-digit c = record {
+pub returns-then-not-is_ascii_digit : goal.returns-then-not-is_ascii_digit
+returns-then-not-is_ascii_digit c = record {
   answer =
       sym (value_not c.args.most c.loop-byte.value c.args.digits.now c.loop-byte.byte-index c.loop-byte-test.true
-      (sym c.is-ascii-digit.ensures.value ∙ c.if-not-is-ascii-digit.true))
+      (sym c.is_ascii_digit.ensures.value ∙ c.if-not-is_ascii_digit.true))
       ∙ c.loop-byte.invariant.0;
   bound = tt;
 }
@@ -17,7 +17,7 @@ pub returns-then-value-most : goal.returns-then-value-most
 returns-then-value-most c = record {
   answer =
       sym (value_large c.args.most c.loop-byte.value c.args.digits.now c.loop-byte.byte-index c.loop-byte-test.true
-      (sym c.is-ascii-digit.ensures.value ∙ c.if-not-is-ascii-digit.false) c.if-value-most.true)
+      (sym c.is_ascii_digit.ensures.value ∙ c.if-not-is_ascii_digit.false) c.if-value-most.true)
       ∙ c.loop-byte.invariant.0;
   bound = tt;
 }
@@ -25,7 +25,7 @@ returns-then-value-most c = record {
 pub loop-byte-preserved : goal.loop-byte-preserved
 loop-byte-preserved c = (
   sym (value_next c.args.most c.loop-byte.value c.args.digits.now c.loop-byte.byte-index c.loop-byte-test.true
-      (sym c.is-ascii-digit.ensures.value ∙ c.if-not-is-ascii-digit.false) c.if-value-most.false)
+      (sym c.is_ascii_digit.ensures.value ∙ c.if-not-is_ascii_digit.false) c.if-value-most.false)
       ∙ c.loop-byte.invariant.0,
   c.if-value-most.false,
 )

@@ -10,8 +10,8 @@ returns-then-n-lt10 t c =
     let one = length_digit c.args.n (omega arith) in
     record { place = omega arith; text = written_digit c.args.out.now c.args.at c.args.n (omega arith) (omega arith) }
 
-pub put-number-last-requires : goal.put-number-last-requires
-put-number-last-requires t c = (omega arith, omega (arith, length_step c.args.n (omega arith) (omega arith)))
+pub put_number-last-requires : goal.put_number-last-requires
+put_number-last-requires t c = (omega arith, omega (arith, length_step c.args.n (omega arith) (omega arith)))
 
 pub bounds-out-last : goal.bounds-out-last
 bounds-out-last t c = omega (arith, length_step c.args.n (omega arith) (omega arith))
@@ -24,5 +24,5 @@ returns t c =
     let long = length_step c.args.n (omega arith) (omega arith) in
     record {
       place = omega arith;
-      text = written_step _ _ _ _ c.args.n (omega arith) (omega arith) (omega arith) c.put-number-last.ensures.place c.put-number-last.ensures.text;
+      text = written_step _ _ _ _ c.args.n (omega arith) (omega arith) (omega arith) c.put_number-last.ensures.place c.put_number-last.ensures.text;
     }

@@ -10,7 +10,7 @@ loop-row-preserved c =
       | then-row-number w ↦
           rw w.rows-is
           (starts_here c.args.number c.args.rows.now c.loop-row.rows c.loop-row.row-index below c.loop-row.auto.rows c.loop-row.invariant _
-          w.if-row-number.true w.after-start-row.ensures)
+          w.if-row-number.true w.after_start-row.ensures)
       | else-row-number w ↦
           rw w.rows-is
           (starts_past c.args.number c.args.rows.now c.loop-row.rows c.loop-row.row-index below c.loop-row.auto.rows c.loop-row.invariant

@@ -12,6 +12,6 @@ returns-in-Some c =
     let w =
     wrote_some c.args.out.now _ _ c.args.at _ _ c.in-Some.n c.args.third c.in-Some.is (omega arith)
     (record { place = c.put-at.ensures.place; text = c.put-at.ensures.text })
-    (record { place = c.put-number.ensures.place; text = c.put-number.ensures.text })
+    (record { place = c.put_number.ensures.place; text = c.put_number.ensures.text })
     in
     record { place = w.place; text = w.text }

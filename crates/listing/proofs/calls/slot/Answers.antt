@@ -14,7 +14,7 @@ returns-in-Some c =
     slot_told c.args.offset (view c.args.engine.now) (view c.slot.new.self) c.args.lines.now c.slot.new.lines c.requires
     c.in-Ok.count (Some c.in-Some.number) c.in-Ok.ensures (sym c.in-Some.is ∙ c.starting.ensures) in (
       after,
-      (λ k. Some (Start (c.present-slot-slot.ensures k) (c.from.ensures k))) ∙ line,
+      (λ k. Some (Start (c.present_slot-slot.ensures k) (c.from.ensures k))) ∙ line,
     )
 
 pub returns-in-None : goal.returns-in-None

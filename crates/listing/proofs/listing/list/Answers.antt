@@ -9,11 +9,11 @@ pub returns : goal.returns
 returns c =
     let file = c.args.file.now in
     let out = c.args.out.now in
-    let sofar = c.tell-file.ensures (story_of file) out (begin (story_of file) out) in
-    let listed = finished c.tell-file.result.ending sofar in
+    let sofar = c.tell_file.ensures (story_of file) out (begin (story_of file) out) in
+    let listed = finished c.tell_file.result.ending sofar in
     record {
       listed = listed;
       within = within sofar;
       promise = file_promised file;
-      unplanned = unplannable file (length out) c.tell-file.result.ending listed.ending;
+      unplanned = unplannable file (length out) c.tell_file.result.ending listed.ending;
     }

@@ -2,8 +2,8 @@ use Rattle.std.proofs.Common.{◌≡◌, ◌<◌, length, rules}
 use Rattle.listing.proofs.Surveys.{first_broken, first-nodes, first-other, no_first_record}
 use Rattle.listing.proofs.survey.read_nodes.Goals as goal
 
-pub returns-then-is-empty : goal.returns-then-is-empty
-returns-then-is-empty c = let none : length c.args.file.now ≡ 0 = search rules in no_first_record c.args.file.now none
+pub returns-then-is_empty : goal.returns-then-is_empty
+returns-then-is_empty c = let none : length c.args.file.now ≡ 0 = search rules in no_first_record c.args.file.now none
 
 pub returns-in-Err : goal.returns-in-Err
 returns-in-Err c =

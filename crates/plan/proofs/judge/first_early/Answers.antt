@@ -5,12 +5,12 @@ use Rattle.plan.proofs.judge.first_early.Goals as goal
 pub loop-i-init : goal.loop-i-init
 loop-i-init c = first_start _
 
-pub returns-then-is-early : goal.returns-then-is-early
-returns-then-is-early c =
-    first_hit _ _ c.loop-i.i c.loop-i-test.true c.loop-i.invariant (sym c.is-early.ensures ∙ c.if-is-early.true)
+pub returns-then-is_early : goal.returns-then-is_early
+returns-then-is_early c =
+    first_hit _ _ c.loop-i.i c.loop-i-test.true c.loop-i.invariant (sym c.is_early.ensures ∙ c.if-is_early.true)
 
 pub loop-i-preserved : goal.loop-i-preserved
-loop-i-preserved c = first_step _ c.loop-i.i c.loop-i.invariant (sym c.is-early.ensures ∙ c.if-is-early.false)
+loop-i-preserved c = first_step _ c.loop-i.i c.loop-i.invariant (sym c.is_early.ensures ∙ c.if-is_early.false)
 
 pub returns : goal.returns
 returns c = first_end _ c.loop-i.i _ (omega arith) c.loop-i.invariant

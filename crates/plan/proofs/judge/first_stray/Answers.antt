@@ -5,12 +5,12 @@ use Rattle.plan.proofs.judge.first_stray.Goals as goal
 pub loop-i-init : goal.loop-i-init
 loop-i-init c = first_start _
 
-pub returns-then-is-stray : goal.returns-then-is-stray
-returns-then-is-stray c =
-    first_hit _ _ c.loop-i.i c.loop-i-test.true c.loop-i.invariant (sym c.is-stray.ensures ∙ c.if-is-stray.true)
+pub returns-then-is_stray : goal.returns-then-is_stray
+returns-then-is_stray c =
+    first_hit _ _ c.loop-i.i c.loop-i-test.true c.loop-i.invariant (sym c.is_stray.ensures ∙ c.if-is_stray.true)
 
 pub loop-i-preserved : goal.loop-i-preserved
-loop-i-preserved c = first_step _ c.loop-i.i c.loop-i.invariant (sym c.is-stray.ensures ∙ c.if-is-stray.false)
+loop-i-preserved c = first_step _ c.loop-i.i c.loop-i.invariant (sym c.is_stray.ensures ∙ c.if-is_stray.false)
 
 pub returns : goal.returns
 returns c = first_end _ c.loop-i.i _ (omega arith) c.loop-i.invariant

@@ -7,7 +7,7 @@ returns-in-Some g c =
     let read = c.in-ok-routes.ensures in
     judgement.outcome (g.M.Interference.nodes c.args.model.now) (g.M.Interference.conflict c.args.model.now)
     c.args.tree.now c.args.draft.transmissions.now c.args.draft.counts.now
-    (sym c.if-is-misshapen.ensures) c.step-table-steps.result c.step-table-steps.ensures
+    (sym c.if-is_misshapen.ensures) c.step_table-steps.result c.step_table-steps.ensures
     c.in-ok-routes.routes (Some c.in-Some.fault) read.0 read.1 c.in-Some.ensures
 
 pub overflow-add-result : goal.overflow-add-result
@@ -15,7 +15,7 @@ overflow-add-result g c =
     let small : c.widest.result ≤ 255 =
     judgement.narrow (g.M.Interference.nodes c.args.model.now) (g.M.Interference.conflict c.args.model.now)
     c.args.tree.now c.args.draft.transmissions.now c.args.draft.counts.now
-    (sym c.if-is-misshapen.ensures) c.step-table-steps.result c.step-table-steps.ensures c.widest.result
+    (sym c.if-is_misshapen.ensures) c.step_table-steps.result c.step_table-steps.ensures c.widest.result
     c.widest.ensures in
     omega arith
 
@@ -26,8 +26,8 @@ returns g c =
     let conflict = g.M.Interference.conflict c.args.model.now in
     let ts = c.args.draft.transmissions.now in
     let cs = c.args.draft.counts.now in (
-      judgement.outcome n conflict c.args.tree.now ts cs (sym c.if-is-misshapen.ensures) c.step-table-steps.result
-          c.step-table-steps.ensures c.in-ok-routes.routes None read.0 read.1 c.in-default.ensures,
-      judgement.distance n conflict c.args.tree.now ts cs (sym c.if-is-misshapen.ensures) c.step-table-steps.result
-          c.step-table-steps.ensures c.widest.result c.widest.ensures,
+      judgement.outcome n conflict c.args.tree.now ts cs (sym c.if-is_misshapen.ensures) c.step_table-steps.result
+          c.step_table-steps.ensures c.in-ok-routes.routes None read.0 read.1 c.in-default.ensures,
+      judgement.distance n conflict c.args.tree.now ts cs (sym c.if-is_misshapen.ensures) c.step_table-steps.result
+          c.step_table-steps.ensures c.widest.result c.widest.ensures,
     )

@@ -13,35 +13,35 @@ returns-in-Some g c =
     c.in-Some.at c.in-Some.ensures
     ∙ ap (λ n. step_fault n conflict parents slots ts (λ i. get_or c.args.steps.now i 0)) c.nodes-n.ensures
 
-pub returns-in-Some-first-conflict : goal.returns-in-Some-first-conflict
-returns-in-Some-first-conflict g c =
+pub returns-in-Some-first_conflict : goal.returns-in-Some-first_conflict
+returns-in-Some-first_conflict g c =
     let conflict = g.M.Interference.conflict c.args.model.now in
     let parents = c.args.routes.now.parents in
     let slots = c.args.routes.now.slots in
     let ts = c.args.transmissions.now in
     faulty.conflict-fault c.nodes-n.result conflict parents slots ts (λ i. get_or c.args.steps.now i 0)
-    c.in-default.ensures c.in-Some-first-conflict.at c.in-Some-first-conflict.ensures
+    c.in-default.ensures c.in-Some-first_conflict.at c.in-Some-first_conflict.ensures
     ∙ ap (λ n. step_fault n conflict parents slots ts (λ i. get_or c.args.steps.now i 0)) c.nodes-n.ensures
 
-pub returns-in-Some-first-uneven : goal.returns-in-Some-first-uneven
-returns-in-Some-first-uneven g c =
+pub returns-in-Some-first_uneven : goal.returns-in-Some-first_uneven
+returns-in-Some-first_uneven g c =
     let conflict = g.M.Interference.conflict c.args.model.now in
     let parents = c.args.routes.now.parents in
     let slots = c.args.routes.now.slots in
     let ts = c.args.transmissions.now in
     faulty.slot-fault c.nodes-n.result conflict parents slots ts (λ i. get_or c.args.steps.now i 0)
-    c.in-default.ensures c.in-default-first-conflict.ensures c.in-Some-first-uneven.node c.in-Some-first-uneven.ensures
+    c.in-default.ensures c.in-default-first_conflict.ensures c.in-Some-first_uneven.node c.in-Some-first_uneven.ensures
     ∙ ap (λ n. step_fault n conflict parents slots ts (λ i. get_or c.args.steps.now i 0)) c.nodes-n.ensures
 
-pub returns-in-Some-first-early : goal.returns-in-Some-first-early
-returns-in-Some-first-early g c =
+pub returns-in-Some-first_early : goal.returns-in-Some-first_early
+returns-in-Some-first_early g c =
     let conflict = g.M.Interference.conflict c.args.model.now in
     let parents = c.args.routes.now.parents in
     let slots = c.args.routes.now.slots in
     let ts = c.args.transmissions.now in
     faulty.order-fault c.nodes-n.result conflict parents slots ts (λ i. get_or c.args.steps.now i 0)
-    c.in-default.ensures c.in-default-first-conflict.ensures c.in-default-first-uneven.ensures c.in-Some-first-early.at
-    c.in-Some-first-early.ensures
+    c.in-default.ensures c.in-default-first_conflict.ensures c.in-default-first_uneven.ensures c.in-Some-first_early.at
+    c.in-Some-first_early.ensures
     ∙ ap (λ n. step_fault n conflict parents slots ts (λ i. get_or c.args.steps.now i 0)) c.nodes-n.ensures
 
 pub returns-in-None : goal.returns-in-None
@@ -51,5 +51,5 @@ returns-in-None g c =
     let slots = c.args.routes.now.slots in
     let ts = c.args.transmissions.now in
     faulty.step-sound c.nodes-n.result conflict parents slots ts (λ i. get_or c.args.steps.now i 0)
-    c.in-default.ensures c.in-default-first-conflict.ensures c.in-default-first-uneven.ensures c.in-None.ensures
+    c.in-default.ensures c.in-default-first_conflict.ensures c.in-default-first_uneven.ensures c.in-None.ensures
     ∙ ap (λ n. step_fault n conflict parents slots ts (λ i. get_or c.args.steps.now i 0)) c.nodes-n.ensures

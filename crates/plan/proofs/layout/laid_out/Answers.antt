@@ -13,8 +13,8 @@ invariant-of-result c = (
         omega arith,
         (
           λ k h.
-              c.start-table.ensures k h ∙ front_sum c.count-table.result c.args.counts.now k c.count-table.ensures (omega arith),
-          (ap sum c.count-table.ensures ∙ omega arith, tt),
+              c.start_table.ensures k h ∙ front_sum c.count_table.result c.args.counts.now k c.count_table.ensures (omega arith),
+          (ap sum c.count_table.ensures ∙ omega arith, tt),
         ),
       ),
     ),

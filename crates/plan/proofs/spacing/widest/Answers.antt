@@ -6,7 +6,7 @@ pub loop-l-init : goal.loop-l-init
 loop-l-init g c = most_start _
 
 pub loop-l-preserved : goal.loop-l-preserved
-loop-l-preserved g c = c.widest-to-most.ensures ∙ most_step _ c.loop-l.l _ _ c.loop-l.invariant refl
+loop-l-preserved g c = c.widest_to-most.ensures ∙ most_step _ c.loop-l.l _ _ c.loop-l.invariant refl
 
 pub returns : goal.returns
 returns g c = most_end _ c.loop-l.l _ _ (omega arith) c.loop-l.invariant

@@ -14,12 +14,12 @@ loop-v-preserved c =
     let inside : v < 64 = omega arith in
     elim c.if-left-v-gt0.branch [
       | then-left-v-gt0+then-not-awaiting-v w ↦ rw (w.places-is, w.waiting-is) (gather_more _ _ v c.loop-v.waiting c.loop-v.places _
-          (ready parents left c.args.n _ c.awaiting-table-awaiting.ensures v inside w.if-left-v-gt0.true w.if-not-awaiting-v.true)
+          (ready parents left c.args.n _ c.awaiting_table-awaiting.ensures v inside w.if-left-v-gt0.true w.if-not-awaiting-v.true)
           c.loop-v.invariant (accepted _ _ _ _ _ w.push.ensures.pushed (omega (arith, c.loop-v.invariant.few))))
       | else-left-v-gt0 w ↦ rw (w.places-is, w.waiting-is) (gather_none _ _ v c.loop-v.waiting c.loop-v.places
           (elim w.else-left-v-gt0.branch [
             | else-left-v-gt0-via-then-left-v-gt0+else-not-awaiting-v w' ↦
-                held_up parents left c.args.n _ c.awaiting-table-awaiting.ensures v inside w'.if-not-awaiting-v.false
+                held_up parents left c.args.n _ c.awaiting_table-awaiting.ensures v inside w'.if-not-awaiting-v.false
             | else-left-v-gt0-via-else-left-v-gt0 w' ↦ finished parents left c.args.n v w'.if-left-v-gt0.false
           ])
           c.loop-v.invariant)

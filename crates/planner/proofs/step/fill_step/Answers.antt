@@ -14,7 +14,7 @@ bounds-routes-candidate g c = omega (arith, join-within c.loop-candidate.invaria
 pub bounds-out-size : goal.bounds-out-size
 bounds-out-size g c =
     join-room c.loop-candidate.invariant c.in-Some.candidate c.in-Some.ensures.popped c.pop.auto.places
-    c.if-is-free.ensures c.requires.1.0
+    c.if-is_free.ensures c.requires.1.0
 
 pub bounds-left-candidate : goal.bounds-left-candidate
 bounds-left-candidate g c = omega (arith, join-within c.loop-candidate.invariant c.in-Some.candidate c.in-Some.ensures.popped c.pop.auto.places)
@@ -24,21 +24,21 @@ overflow-sub-left g c =
     omega (
       arith,
       join-slots c.loop-candidate.invariant c.in-Some.candidate c.in-Some.ensures.popped c.pop.auto.places
-          c.if-is-free.ensures,
+          c.if-is_free.ensures,
     )
 
-pub bounds-left-candidate-then-is-free : goal.bounds-left-candidate-then-is-free
-bounds-left-candidate-then-is-free g c = omega (arith, join-within c.loop-candidate.invariant c.in-Some.candidate c.in-Some.ensures.popped c.pop.auto.places)
+pub bounds-left-candidate-then-is_free : goal.bounds-left-candidate-then-is_free
+bounds-left-candidate-then-is_free g c = omega (arith, join-within c.loop-candidate.invariant c.in-Some.candidate c.in-Some.ensures.popped c.pop.auto.places)
 
 pub loop-candidate-preserved : goal.loop-candidate-preserved
 loop-candidate-preserved g c =
     join-none c.loop-candidate.invariant c.in-Some.candidate c.in-Some.ensures.popped c.pop.auto.places
-    c.if-is-free.ensures
+    c.if-is_free.ensures
 
-pub loop-candidate-preserved-then-is-free : goal.loop-candidate-preserved-then-is-free
-loop-candidate-preserved-then-is-free g c =
+pub loop-candidate-preserved-then-is_free : goal.loop-candidate-preserved-then-is_free
+loop-candidate-preserved-then-is_free g c =
     join_more c.loop-candidate.invariant c.in-Some.candidate c.in-Some.ensures.popped c.pop.auto.places
-    c.if-is-free.ensures (g.met.M.Interference.shared c.args.model.now) c.requires.1.0
+    c.if-is_free.ensures (g.met.M.Interference.shared c.args.model.now) c.requires.1.0
 
 pub returns : goal.returns
 returns g c = join-end c.loop-candidate.invariant c.in-default.ensures.popped.0

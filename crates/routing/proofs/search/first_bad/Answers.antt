@@ -5,12 +5,12 @@ use Rattle.routing.proofs.search.first_bad.Goals as goal
 pub loop-i-init : goal.loop-i-init
 loop-i-init c = first_start _
 
-pub returns-then-is-bad : goal.returns-then-is-bad
-returns-then-is-bad c =
-    first_hit _ _ c.loop-i.i c.loop-i-test.true c.loop-i.invariant (sym c.is-bad.ensures ∙ c.if-is-bad.true)
+pub returns-then-is_bad : goal.returns-then-is_bad
+returns-then-is_bad c =
+    first_hit _ _ c.loop-i.i c.loop-i-test.true c.loop-i.invariant (sym c.is_bad.ensures ∙ c.if-is_bad.true)
 
 pub loop-i-preserved : goal.loop-i-preserved
-loop-i-preserved c = first_step _ c.loop-i.i c.loop-i.invariant (sym c.is-bad.ensures ∙ c.if-is-bad.false)
+loop-i-preserved c = first_step _ c.loop-i.i c.loop-i.invariant (sym c.is_bad.ensures ∙ c.if-is_bad.false)
 
 pub returns : goal.returns
 returns c = first_end _ c.loop-i.i _ (omega arith) c.loop-i.invariant

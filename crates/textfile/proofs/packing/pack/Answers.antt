@@ -8,19 +8,19 @@ pub returns-in-Err : goal.returns-in-Err
 returns-in-Err c =
     let some : 0 < length c.loop-rest.rest.now = search rules in
     let stops =
-    packs_fault c.args.text.now _ c.loop-rest.rest.now _ _ (c.loop-rest.number + 1) c.loop-rest.invariant.0 some c.next-line.ensures.line c.next-line.ensures.rest c.in-Err.fault c.in-Err.ensures
+    packs_fault c.args.text.now _ c.loop-rest.rest.now _ _ (c.loop-rest.number + 1) c.loop-rest.invariant.0 some c.next_line.ensures.line c.next_line.ensures.rest c.in-Err.fault c.in-Err.ensures
     in
     search rules
 
 pub loop-rest-preserved-in-ok-append : goal.loop-rest-preserved-in-ok-append
 loop-rest-preserved-in-ok-append c =
     let some : 0 < length c.loop-rest.rest.now = search rules in
-    (packs_more c.args.text.now _ c.loop-rest.rest.now _ _ (c.loop-rest.number + 1) c.loop-rest.invariant.0 some c.next-line.ensures.line c.next-line.ensures.rest c.in-Ok-Some.record _ (search rules) c.in-ok-append.ensures, omega arith)
+    (packs_more c.args.text.now _ c.loop-rest.rest.now _ _ (c.loop-rest.number + 1) c.loop-rest.invariant.0 some c.next_line.ensures.line c.next_line.ensures.rest c.in-Ok-Some.record _ (search rules) c.in-ok-append.ensures, omega arith)
 
 pub loop-rest-preserved : goal.loop-rest-preserved
 loop-rest-preserved c =
     let some : 0 < length c.loop-rest.rest.now = search rules in
-    (packs_none c.args.text.now _ c.loop-rest.rest.now _ _ (c.loop-rest.number + 1) c.loop-rest.invariant.0 some c.next-line.ensures.line c.next-line.ensures.rest (search rules), omega arith)
+    (packs_none c.args.text.now _ c.loop-rest.rest.now _ _ (c.loop-rest.number + 1) c.loop-rest.invariant.0 some c.next_line.ensures.line c.next_line.ensures.rest (search rules), omega arith)
 
 pub returns : goal.returns
 returns c =

@@ -15,14 +15,14 @@ use Rattle.rules.specs.Phases.{is_booked}
 use Rattle.rules.specs.Rows.{booked_row}
 use Rattle.std.proofs.lemmas.List.{length-take}
 use Rattle.std.proofs.lemmas.Result.{err_from_is_err_and}
-use Rattle.std.specs.List.{AllByRecursion as All}
+use Rattle.std.specs.List.{AllByRecursion}
 
 pub admit-requires : goal.admit-requires
 admit-requires c =
     let e = c.args.self.now in
     let same = sym (same_front e.table.rows e.table.count) in
     let long = length-take (e.table.count - 0) e.table.rows in
-    (omega arith, (subst (All Fair) same (fair_rows (view e) e.good), (e.spread, subst (λ rows. All (Kept e.length e.distance rows) rows) same (kept_rows (view e) e.good))))
+    (omega arith, (subst (AllByRecursion Fair) same (fair_rows (view e) e.good), (e.spread, subst (λ rows. AllByRecursion (Kept e.length e.distance rows) rows) same (kept_rows (view e) e.good))))
 
 pub enter-requires : goal.enter-requires
 enter-requires c =
@@ -33,7 +33,7 @@ enter-requires c =
     let long = length-take (e.table.count - 0) e.table.rows in
     record {
       room = omega arith;
-      above = subst (λ r. All (λ h. h.number < r.number) (view e).rows) (sym admitted.1) (below_rows (view e) e.good);
+      above = subst (λ r. AllByRecursion (λ h. h.number < r.number) (view e).rows) (sym admitted.1) (below_rows (view e) e.good);
       booked = ap (λ r. is_booked r.phase) admitted.1;
     }
 

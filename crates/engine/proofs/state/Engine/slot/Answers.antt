@@ -10,36 +10,36 @@ use Rattle.rules.specs.declared.call.Call.TheVariants.{Slot}
 use Rattle.rules.specs.Rules.{most_lines, start_any}
 use Rattle.std.proofs.lemmas.List.{length-take-le}
 use Rattle.std.proofs.lemmas.Bool.{ltb-false}
-use Rattle.std.specs.List.{AllByRecursion as All}
+use Rattle.std.specs.List.{AllByRecursion}
 
-pub start-any-requires : goal.start-any-requires
-start-any-requires c =
+pub start_any-requires : goal.start_any-requires
+start_any-requires c =
     let e = c.args.self.now in
     let v = view e in
-    let same = started_any v c.may-start-may.result c.start-any-started.result (rows_of c.start-any-started.new.self) c.may-start-may.ensures c.start-any-started.ensures in
+    let same = started_any v c.may_start-may.result c.start_any-started.result (rows_of c.start_any-started.new.self) c.may_start-may.ensures c.start_any-started.ensures in
     λ some.
-    let few = room-now v e.good e.short e.spread c.start-any-started.result (rows_of c.start-any-started.new.self) same some in
+    let few = room-now v e.good e.short e.spread c.start_any-started.result (rows_of c.start_any-started.new.self) same some in
     let long = length-take-le e.running.len e.running.rounds (omega arith) in
     omega arith
 
-pub write-lines-count-requires : goal.write-lines-count-requires
-write-lines-count-requires c =
+pub write_lines-count-requires : goal.write_lines-count-requires
+write_lines-count-requires c =
     let e = c.args.self.now in
     let v = view e in
-    let same = started_any v c.may-start-may.result c.start-any-started.result (rows_of c.start-any-started.new.self) c.may-start-may.ensures c.start-any-started.ensures in
-    let running = c.start-any.new.self in
-    let run : take running.len running.rounds ≡ (start_any v).running = c.start-any.ensures ∙ ap (λ w. w.running) same in
+    let same = started_any v c.may_start-may.result c.start_any-started.result (rows_of c.start_any-started.new.self) c.may_start-may.ensures c.start_any-started.ensures in
+    let running = c.start_any.new.self in
+    let run : take running.len running.rounds ≡ (start_any v).running = c.start_any.ensures ∙ ap (λ w. w.running) same in
     let wide = wide_by v (length c.args.lines.now) c.from.result c.from-distance.result c.from.ensures c.from-distance.ensures c.if-lines-from.false in
     let fits = fit-now v e.good e.short e.spread (length c.args.lines.now) (take running.len running.rounds) run wide in
-    record { fit = fits; run = subst (All (Runs e.slot)) (sym run) (runs-now v e.good e.short e.spread) }
+    record { fit = fits; run = subst (AllByRecursion (Runs e.slot)) (sym run) (runs-now v e.good e.short e.spread) }
 
 pub invariant-of-self : goal.invariant-of-self
 invariant-of-self c =
     let e = c.args.self.now in
     let v = view e in
-    let same = started_any v c.may-start-may.result c.start-any-started.result (rows_of c.start-any-started.new.self) c.may-start-may.ensures c.start-any-started.ensures in
-    let running = c.start-any.new.self in
-    let over = over_by v c.start-any-started.result (rows_of c.start-any-started.new.self) c.last-start-self.result (take running.len running.rounds) (take c.drop-finished.new.self.len c.drop-finished.new.self.rounds) c.last-start-self.ensures c.start-any.ensures c.drop-finished.ensures in
+    let same = started_any v c.may_start-may.result c.start_any-started.result (rows_of c.start_any-started.new.self) c.may_start-may.ensures c.start_any-started.ensures in
+    let running = c.start_any.new.self in
+    let over = over_by v c.start_any-started.result (rows_of c.start_any-started.new.self) c.last_start-self.result (take running.len running.rounds) (take c.drop_finished.new.self.len c.drop_finished.new.self.rounds) c.last_start-self.ensures c.start_any.ensures c.drop_finished.ensures in
     let room = length c.args.lines.now in
     let wide = wide_by v room c.from.result c.from-distance.result c.from.ensures c.from-distance.ensures c.if-lines-from.false in
     let none = slot_left v room c.if-self-eq-LAST-SLOT.false wide in
@@ -50,14 +50,14 @@ returns c =
     let e = c.args.self.now in
     let v = view e in
     let room = length c.args.lines.now in
-    let same = started_any v c.may-start-may.result c.start-any-started.result (rows_of c.start-any-started.new.self) c.may-start-may.ensures c.start-any-started.ensures in
-    let running = c.start-any.new.self in
-    let over = over_by v c.start-any-started.result (rows_of c.start-any-started.new.self) c.last-start-self.result (take running.len running.rounds) (take c.drop-finished.new.self.len c.drop-finished.new.self.rounds) c.last-start-self.ensures c.start-any.ensures c.drop-finished.ensures in
+    let same = started_any v c.may_start-may.result c.start_any-started.result (rows_of c.start_any-started.new.self) c.may_start-may.ensures c.start_any-started.ensures in
+    let running = c.start_any.new.self in
+    let over = over_by v c.start_any-started.result (rows_of c.start_any-started.new.self) c.last_start-self.result (take running.len running.rounds) (take c.drop_finished.new.self.len c.drop_finished.new.self.rounds) c.last_start-self.ensures c.start_any.ensures c.drop_finished.ensures in
     let wide = wide_by v room c.from.result c.from-distance.result c.from.ensures c.from-distance.ensures c.if-lines-from.false in
     let none = slot_left v room c.if-self-eq-LAST-SLOT.false wide in
-    let started = c.start-any-started.result in
-    let rows = rows_of c.start-any-started.new.self in
+    let started = c.start_any-started.result in
+    let rows = rows_of c.start_any-started.new.self in
     let run = take running.len running.rounds in
-    slot_done v room c.write-lines-count.result c.args.lines.now _ _ (started_by started rows v) none same
-    (written_count v started rows run _ c.start-any.ensures c.write-lines-count.ensures.count) over
-    (written_lines v started rows run c.write-lines-count.result c.args.lines.now _ c.start-any.ensures c.write-lines-count.ensures.lines)
+    slot_done v room c.write_lines-count.result c.args.lines.now _ _ (started_by started rows v) none same
+    (written_count v started rows run _ c.start_any.ensures c.write_lines-count.ensures.count) over
+    (written_lines v started rows run c.write_lines-count.result c.args.lines.now _ c.start_any.ensures c.write_lines-count.ensures.lines)

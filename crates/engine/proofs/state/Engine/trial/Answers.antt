@@ -10,14 +10,14 @@ use Rattle.engine.proofs.state.Engine.trial.Goals as goal
 use Rattle.rules.specs.Rows.{booked_row}
 use Rattle.std.proofs.lemmas.List.{length-take}
 use Rattle.std.proofs.lemmas.Result.{err_from_is_err_and}
-use Rattle.std.specs.List.{AllByRecursion as All}
+use Rattle.std.specs.List.{AllByRecursion}
 
 pub admit-requires : goal.admit-requires
 admit-requires c =
     let e = c.args.self.now in
     let same = sym (ap (take (e.table.count - 0)) c.places-rows.ensures ∙ same_front e.table.rows e.table.count) in
     let long = length-take (e.table.count - 0) c.places-rows.result in
-    (omega arith, (subst (All Fair) same (fair_rows (view e) e.good), (e.spread, subst (λ rows. All (Kept e.length e.distance rows) rows) same (kept_rows (view e) e.good))))
+    (omega arith, (subst (AllByRecursion Fair) same (fair_rows (view e) e.good), (e.spread, subst (λ rows. AllByRecursion (Kept e.length e.distance rows) rows) same (kept_rows (view e) e.good))))
 
 pub returns : goal.returns
 returns c =

@@ -7,7 +7,7 @@ use Rattle.engine.proofs.Safe.{fair_rows}
 use Rattle.engine.proofs.Waitings.{place_below, same_front, wait_of_none, wait_of_row}
 use Rattle.engine.proofs.state.Engine.wait.Goals as goal
 use Rattle.std.proofs.lemmas.List.{length-take}
-use Rattle.std.specs.List.{AllByRecursion as All}
+use Rattle.std.specs.List.{AllByRecursion}
 
 pub offset-bounds-rows-i : goal.offset-bounds-rows-i
 offset-bounds-rows-i c =
@@ -21,26 +21,26 @@ bounds-rows-i c =
     let below = place_below c.args.number t.count t.rows c.in-Some.i c.in-Some.ensures.row in
     omega arith
 
-pub longest-wait-requires : goal.longest-wait-requires
-longest-wait-requires c =
+pub longest_wait-requires : goal.longest_wait-requires
+longest_wait-requires c =
     let e = c.args.self.now in
     let long = length-take (e.table.count - 0) e.table.rows in
-    (omega arith, (subst (All Fair) (sym (same_front e.table.rows e.table.count)) (fair_rows (view e) e.good), (tt, e.spread)))
+    (omega arith, (subst (AllByRecursion Fair) (sym (same_front e.table.rows e.table.count)) (fair_rows (view e) e.good), (tt, e.spread)))
 
-pub returns-in-Some-longest-wait : goal.returns-in-Some-longest-wait
-returns-in-Some-longest-wait c =
+pub returns-in-Some-longest_wait : goal.returns-in-Some-longest_wait
+returns-in-Some-longest_wait c =
     let e = c.args.self.now in
     let value =
-    wait_of_row c.args.number (view e) e.table.count e.table.rows refl c.in-Some.i (Some c.in-Some-longest-wait.wait)
-    c.in-Some.ensures.row c.in-Some-longest-wait.ensures.value in
+    wait_of_row c.args.number (view e) e.table.count e.table.rows refl c.in-Some.i (Some c.in-Some-longest_wait.wait)
+    c.in-Some.ensures.row c.in-Some-longest_wait.ensures.value in
     record { value = value; least = subst (Waited c.args.number (view e)) (sym value) (waited (view e) e.good c.args.number) }
 
-pub returns-in-None-longest-wait : goal.returns-in-None-longest-wait
-returns-in-None-longest-wait c =
+pub returns-in-None-longest_wait : goal.returns-in-None-longest_wait
+returns-in-None-longest_wait c =
     let e = c.args.self.now in
     let value =
     wait_of_row c.args.number (view e) e.table.count e.table.rows refl c.in-Some.i None c.in-Some.ensures.row
-    c.in-None-longest-wait.ensures.value in
+    c.in-None-longest_wait.ensures.value in
     record { value = value; least = subst (Waited c.args.number (view e)) (sym value) (waited (view e) e.good c.args.number) }
 
 pub returns-in-None : goal.returns-in-None

@@ -5,4 +5,4 @@ use Rattle.engine.proofs.table.Table.is_quiet.Goals as goal
 pub returns : goal.returns
 returns c =
     let table = c.args.self.now in
-    c.is-empty.ensures ∙ queue_quiet (take table.count table.rows) _ (table_queued table)
+    c.is_empty.ensures ∙ queue_quiet (take table.count table.rows) _ (table_queued table)

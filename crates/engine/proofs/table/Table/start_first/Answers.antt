@@ -10,7 +10,7 @@ invariant-of-self c =
     let table = c.args.self.now in
     let was = table_held table (omega arith) in
     let first = c.in-Some.first in
-    mapped_facts table.count c.start-row.new.rows _ table.rows (start_row first.number) (omega arith) c.start-row.ensures _
+    mapped_facts table.count c.start_row.new.rows _ table.rows (start_row first.number) (omega arith) c.start_row.ensures _
     (omega arith) (held_started _ first _ (subst (Held _ _) c.in-Some.ensures.queue was))
 
 pub invariant-of-self-in-None : goal.invariant-of-self-in-None
@@ -25,7 +25,7 @@ returns-in-Some c =
     let table = c.args.self.now in
     let first = c.in-Some.first in (
       queue_first (take table.count table.rows) first _ (sym c.in-Some.ensures.queue ∙ table_queued table),
-      mapped_part table.count c.start-row.new.rows _ table.rows (start_row first.number) (omega arith) c.start-row.ensures,
+      mapped_part table.count c.start_row.new.rows _ table.rows (start_row first.number) (omega arith) c.start_row.ensures,
     )
 
 pub returns-in-None : goal.returns-in-None

@@ -15,11 +15,11 @@ pub invariant-of-self : goal.invariant-of-self
 invariant-of-self c =
     let table = c.args.self.now in
     let was = table_held table (omega arith) in
-    kept_facts c.keep-rows-self.result table.count c.keep-rows-self.new.rows _ table.rows staying (omega arith)
-    c.keep-rows-self.ensures.front _ (omega arith) (held_swept _ _ was c.requires)
+    kept_facts c.keep_rows-self.result table.count c.keep_rows-self.new.rows _ table.rows staying (omega arith)
+    c.keep_rows-self.ensures.front _ (omega arith) (held_swept _ _ was c.requires)
 
 pub returns : goal.returns
 returns c =
     let table = c.args.self.now in
-    kept_part c.keep-rows-self.result table.count c.keep-rows-self.new.rows _ table.rows staying (omega arith)
-    c.keep-rows-self.ensures.front
+    kept_part c.keep_rows-self.result table.count c.keep_rows-self.new.rows _ table.rows staying (omega arith)
+    c.keep_rows-self.ensures.front

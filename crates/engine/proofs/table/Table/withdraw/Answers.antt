@@ -17,13 +17,13 @@ invariant-of-self c =
     let table = c.args.self.now in
     let was = table_held table (omega arith) in
     let row = row_here c.args.number table.count table.rows c.in-Some.i c.in-Some.ensures.row (omega arith) in
-    kept_facts c.keep-rows-self.result table.count c.keep-rows-self.new.rows _ table.rows (other_than c.args.number) (omega arith)
-    c.keep-rows-self.ensures.front _ (omega arith) (held_withdrawn _ _ was c.args.number (row_at table.rows c.in-Some.i) row (ap is_booked c.in-Booked.is))
+    kept_facts c.keep_rows-self.result table.count c.keep_rows-self.new.rows _ table.rows (other_than c.args.number) (omega arith)
+    c.keep_rows-self.ensures.front _ (omega arith) (held_withdrawn _ _ was c.args.number (row_at table.rows c.in-Some.i) row (ap is_booked c.in-Booked.is))
 
 pub returns : goal.returns
 returns c =
     let table = c.args.self.now in
     let row = row_here c.args.number table.count table.rows c.in-Some.i c.in-Some.ensures.row (omega arith) in
     done _ _ _ _ (allows_booked c.args.number (take table.count table.rows) (row_at table.rows c.in-Some.i) row c.in-Booked.is)
-    (kept_part c.keep-rows-self.result table.count c.keep-rows-self.new.rows _ table.rows (other_than c.args.number) (omega arith)
-    c.keep-rows-self.ensures.front)
+    (kept_part c.keep_rows-self.result table.count c.keep_rows-self.new.rows _ table.rows (other_than c.args.number) (omega arith)
+    c.keep_rows-self.ensures.front)

@@ -5,4 +5,4 @@ use Rattle.queue.proofs.Ranked.{length-ranked}
 
 pub returns : goal.returns
 returns c =
-    c.is-empty.ensures ∙ ap (λ n. eqb n 0) (sym (length-ranked sooner (take c.args.self.now.len c.args.self.now.places)))
+    c.is_empty.ensures ∙ ap (λ n. eqb n 0) (sym (length-ranked sooner (take c.args.self.now.len c.args.self.now.places)))

@@ -12,8 +12,8 @@ loop-i-preserved c = (
   simp length-set c.loop-i.invariant.0,
   search rules,
   λ a b.
-      rw c.with-bit.ensures
-      (one_more c.loop-i.own_val c.args.edges.now c.loop-i.i c.loop-i-test.true (omega arith) c.loop-i.invariant.2 a b),
+      rw c.with_bit.ensures
+      (one_more c.loop-i.own c.args.edges.now c.loop-i.i c.loop-i-test.true (omega arith) c.loop-i.invariant.2 a b),
 )
 
 pub returns : goal.returns

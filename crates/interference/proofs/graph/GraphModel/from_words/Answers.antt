@@ -8,5 +8,5 @@ returns c =
       counted = search rules;
       within = search rules;
       count = search rules;
-      pairs = same_words _ c.loop-i.own_val c.args.words.now (search rules);
+      pairs = same_words _ c.loop-i.own c.args.words.now (search rules);
     }

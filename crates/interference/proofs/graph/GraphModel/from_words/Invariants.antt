@@ -5,5 +5,5 @@ use Rattle.interference.proofs.graph.GraphModel.from_words.Given as goal
 -- the words so far are within the nodes, and copied
 abbrev pub invariant-loop-i : goal.invariant-loop-i
 invariant-loop-i l =
-    (length l.own_val ≡ 64) × WordsWithin l.words l.i
-    × ((j : ℕ) → j < l.i → get_or l.own_val j 0 ≡ get_or l.words j 0)
+    (length l.own ≡ 64) × WordsWithin l.words l.i
+    × ((j : ℕ) → j < l.i → get_or l.own j 0 ≡ get_or l.words j 0)

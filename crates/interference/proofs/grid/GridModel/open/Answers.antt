@@ -9,5 +9,5 @@ returns c =
       sided = search rules;
       within = search rules;
       count = search rules;
-      pairs = same_positions _ c.args.side c.loop-i.own_val c.args.positions.now (search rules);
+      pairs = same_positions _ c.args.side c.loop-i.own c.args.positions.now (search rules);
     }

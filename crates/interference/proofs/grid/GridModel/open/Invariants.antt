@@ -5,5 +5,5 @@ use Rattle.interference.proofs.grid.GridModel.open.Given as goal
 -- the positions so far are inside, and copied
 abbrev pub invariant-loop-i : goal.invariant-loop-i
 invariant-loop-i l =
-    (length l.own_val ≡ 64) × InsideTo l.positions l.i
-    × ((j : ℕ) → j < l.i → position_at l.own_val j ≡ position_at l.positions j)
+    (length l.own ≡ 64) × InsideTo l.positions l.i
+    × ((j : ℕ) → j < l.i → position_at l.own j ≡ position_at l.positions j)

@@ -19,18 +19,18 @@ returns-in-err-model c =
     (site_refused (site_of s) c.in-err-model.field-0.0
     (subst (λ es. EdgesRefused s.count es c.in-err-model.field-0.0) (whole s.edge_count s.edges) c.in-err-model.ensures))
 
-pub returns-in-err-make-plan : goal.returns-in-err-make-plan
-returns-in-err-make-plan c =
+pub returns-in-err-make_plan : goal.returns-in-err-make_plan
+returns-in-err-make_plan c =
     let s = c.args.self.now in
     let m = c.in-ok-model.model in
     let conflict = graph_conflict m.count (word_edge m.words) in
-    let p = err_from_is_err_and c.from-residual-in-err-make-plan.result c.from-residual-in-err-make-plan.ensures.1 in
+    let p = err_from_is_err_and c.from-residual-in-err-make_plan.result c.from-residual-in-err-make_plan.ensures.1 in
     rw (p.1, p.2)
     (tree-refused (site_of s) m.count conflict
     (subst (λ es. EdgesMeant s.count es m.count conflict) (whole s.edge_count s.edges) c.in-ok-model.ensures)
-    (plan_of c.new-plan.result) (plan_of c.make-plan.new.place) c.in-err-make-plan.field-0.0
-    (subst (λ ls. Made m.count conflict ls (plan_of c.new-plan.result) (plan_of c.make-plan.new.place) {U = Unit {0}} (Err c.in-err-make-plan.field-0.0))
-    (whole s.link_count s.links) c.in-err-make-plan.ensures.made))
+    (plan_of c.new-plan.result) (plan_of c.make_plan.new.place) c.in-err-make_plan.field-0.0
+    (subst (λ ls. Made m.count conflict ls (plan_of c.new-plan.result) (plan_of c.make_plan.new.place) {U = Unit {0}} (Err c.in-err-make_plan.field-0.0))
+    (whole s.link_count s.links) c.in-err-make_plan.ensures.made))
 
 pub returns : goal.returns
 returns c =
@@ -39,6 +39,6 @@ returns c =
     let conflict = graph_conflict m.count (word_edge m.words) in
     site-planned (site_of s) m.count conflict
     (subst (λ es. EdgesMeant s.count es m.count conflict) (whole s.edge_count s.edges) c.in-ok-model.ensures)
-    (plan_of c.new-plan.result) (plan_of c.make-plan.new.place)
-    (subst (λ ls. Made m.count conflict ls (plan_of c.new-plan.result) (plan_of c.make-plan.new.place) {U = Unit {0}} (Ok tt))
-    (whole s.link_count s.links) c.in-ok-make-plan.ensures.made)
+    (plan_of c.new-plan.result) (plan_of c.make_plan.new.place)
+    (subst (λ ls. Made m.count conflict ls (plan_of c.new-plan.result) (plan_of c.make_plan.new.place) {U = Unit {0}} (Ok tt))
+    (whole s.link_count s.links) c.in-ok-make_plan.ensures.made)

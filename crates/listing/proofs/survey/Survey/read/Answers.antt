@@ -6,15 +6,15 @@ use Rattle.listing.proofs.Reading.{next_size, size_by}
 use Rattle.listing.proofs.Surveys.{site-again, site-broken, site-edge, site-ends, site-link, site_over}
 use Rattle.listing.proofs.survey.Survey.read.Goals as goal
 
-pub note-edge-requires : goal.note-edge-requires
-note-edge-requires c =
+pub note_edge-requires : goal.note_edge-requires
+note_edge-requires c =
     let long : length c.in-Ok.pair.1.now + 3 ≡ length c.loop-offset.rest.now =
     ap (λ r. length c.in-Ok.pair.1.now + size_by r) (sym c.in-Edge.is)
     ∙ next_size c.loop-offset.rest.now c.in-Ok.pair.0 c.in-Ok.pair.1.now c.in-Ok.ensures.answer in
     omega (arith, c.loop-offset.invariant.2)
 
-pub note-link-requires : goal.note-link-requires
-note-link-requires c =
+pub note_link-requires : goal.note_link-requires
+note_link-requires c =
     let long : length c.in-Ok.pair.1.now + 4 ≡ length c.loop-offset.rest.now =
     ap (λ r. length c.in-Ok.pair.1.now + size_by r) (sym c.in-Tree.is)
     ∙ next_size c.loop-offset.rest.now c.in-Ok.pair.0 c.in-Ok.pair.1.now c.in-Ok.ensures.answer in
@@ -47,9 +47,9 @@ loop-offset-preserved c =
     let long : length c.in-Ok.pair.1.now + 4 ≡ length c.loop-offset.rest.now =
     ap (λ r. length c.in-Ok.pair.1.now + size_by r) (sym c.in-Tree.is)
     ∙ next_size c.loop-offset.rest.now c.in-Ok.pair.0 c.in-Ok.pair.1.now c.in-Ok.ensures.answer in
-    let counts = c.note-link.ensures.counts in (
+    let counts = c.note_link.ensures.counts in (
       site-link c.args.total (surveyed (site_of c.args.self.now) (script_of c.args.total c.args.bytes.now)) (site_of c.loop-offset.self) c.loop-offset.rest.now
-          c.loop-offset.invariant.0 some c.in-Ok.pair.0 c.in-Ok.pair.1.now c.in-Ok.ensures.answer _ _ _ (site_of c.note-link.new.self) c.in-Tree.is c.note-link.ensures.site,
+          c.loop-offset.invariant.0 some c.in-Ok.pair.0 c.in-Ok.pair.1.now c.in-Ok.ensures.answer _ _ _ (site_of c.note_link.new.self) c.in-Tree.is c.note_link.ensures.site,
       omega arith,
       omega (arith, c.loop-offset.invariant.2),
     )
@@ -60,9 +60,9 @@ loop-offset-preserved-in-Edge c =
     let long : length c.in-Ok.pair.1.now + 3 ≡ length c.loop-offset.rest.now =
     ap (λ r. length c.in-Ok.pair.1.now + size_by r) (sym c.in-Edge.is)
     ∙ next_size c.loop-offset.rest.now c.in-Ok.pair.0 c.in-Ok.pair.1.now c.in-Ok.ensures.answer in
-    let counts = c.note-edge.ensures.counts in (
+    let counts = c.note_edge.ensures.counts in (
       site-edge c.args.total (surveyed (site_of c.args.self.now) (script_of c.args.total c.args.bytes.now)) (site_of c.loop-offset.self) c.loop-offset.rest.now
-          c.loop-offset.invariant.0 some c.in-Ok.pair.0 c.in-Ok.pair.1.now c.in-Ok.ensures.answer _ _ (site_of c.note-edge.new.self) c.in-Edge.is c.note-edge.ensures.site,
+          c.loop-offset.invariant.0 some c.in-Ok.pair.0 c.in-Ok.pair.1.now c.in-Ok.ensures.answer _ _ (site_of c.note_edge.new.self) c.in-Edge.is c.note_edge.ensures.site,
       omega arith,
       omega (arith, c.loop-offset.invariant.2),
     )
