@@ -5,11 +5,11 @@ use Rattle.planning.proofs.Law.{always}
 use Rattle.planning.proofs.Makings as makings
 use Rattle.planning.proofs.make_plan.Goals as goal
 
-pub slice-bounds-draft-end : goal.slice-bounds-draft-end
-slice-bounds-draft-end g c = let done = c.in-Ok.ensures in used_within _ _ _ _ done.1 done.3
+pub slice_bounds-draft-end : goal.slice_bounds-draft-end
+slice_bounds-draft-end g c = let done = c.in-Ok.ensures in used_within _ _ _ _ done.1 done.3
 
-pub slice-bounds-draft-end-2 : goal.slice-bounds-draft-end-2
-slice-bounds-draft-end-2 g c = let done = c.in-Ok.ensures in steps_within _ _ _ _ done.2 done.4
+pub slice_bounds-draft-end-2 : goal.slice_bounds-draft-end-2
+slice_bounds-draft-end-2 g c = let done = c.in-Ok.ensures in steps_within _ _ _ _ done.2 done.4
 
 pub unreachable-requires-in-Err : goal.unreachable-requires-in-Err
 unreachable-requires-in-Err g c =

@@ -16,8 +16,8 @@ put_number-last-requires t c = (omega arith, omega (arith, length_step c.args.n 
 pub bounds-out-last : goal.bounds-out-last
 bounds-out-last t c = omega (arith, length_step c.args.n (omega arith) (omega arith))
 
-pub overflow-add-result-2 : goal.overflow-add-result-2
-overflow-add-result-2 t c = omega (arith, length_step c.args.n (omega arith) (omega arith))
+pub overflow_add-result-2 : goal.overflow_add-result-2
+overflow_add-result-2 t c = omega (arith, length_step c.args.n (omega arith) (omega arith))
 
 pub returns : goal.returns
 returns t c =

@@ -4,8 +4,8 @@ use Rattle.lines.specs.declared.line.TextLine.TheVariants.{Start}
 use Rattle.listing.proofs.Days.{slot_count, slot_told}
 use Rattle.listing.proofs.calls.slot.Goals as goal
 
-pub slice-bounds-starting-end : goal.slice-bounds-starting-end
-slice-bounds-starting-end c =
+pub slice_bounds-starting-end : goal.slice_bounds-starting-end
+slice_bounds-starting-end c =
     omega (arith, slot_count (view c.args.engine.now) (view c.slot.new.self) c.args.lines.now c.slot.new.lines c.in-Ok.count c.in-Ok.ensures)
 
 pub returns-in-Some : goal.returns-in-Some

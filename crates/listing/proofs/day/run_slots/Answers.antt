@@ -6,12 +6,12 @@ use Rattle.std.proofs.lemmas.Result.{err_from_is_err_and}
 
 pub loop-left-preserved : goal.loop-left-preserved
 loop-left-preserved c =
-    one_more c.loop-left.invariant (view c.slot-line.new.engine) c.slot-line.result c.tell.new.out c.in-ok-place.place (omega arith)
-    c.slot-line.ensures c.in-ok-place.ensures
+    one_more c.loop-left.invariant (view c.slot-line.new.engine) c.slot-line.result c.tell.new.out c.in_ok-place.place (omega arith)
+    c.slot-line.ensures c.in_ok-place.ensures
 
-pub returns-in-err-place : goal.returns-in-err-place
-returns-in-err-place c =
+pub returns-in_err-place : goal.returns-in_err-place
+returns-in_err-place c =
     let p = err_from_is_err_and c.from-residual.result c.from-residual.ensures.1 in
     rw (p.1, p.2)
-    (stopped_run c.loop-left.invariant (view c.slot-line.new.engine) c.slot-line.result c.tell.new.out c.in-err-place.field-0.0 (omega arith)
-    c.slot-line.ensures c.in-err-place.ensures)
+    (stopped_run c.loop-left.invariant (view c.slot-line.new.engine) c.slot-line.result c.tell.new.out c.in_err-place.field-0.0 (omega arith)
+    c.slot-line.ensures c.in_err-place.ensures)

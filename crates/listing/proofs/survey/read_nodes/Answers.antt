@@ -17,7 +17,7 @@ returns-in-Nodes c =
       c.in-Ok.ensures.shorter,
     )
 
-pub returns-in-default : goal.returns-in-default
-returns-in-default c =
+pub returns-in_default : goal.returns-in_default
+returns-in_default c =
     let some : 0 < length c.args.file.now = search rules in
-    first-other c.args.file.now c.in-Ok.pair.0 c.in-Ok.pair.1.now some c.in-Ok.ensures.answer c.in-default.not-Nodes
+    first-other c.args.file.now c.in-Ok.pair.0 c.in-Ok.pair.1.now some c.in-Ok.ensures.answer c.in_default.not-Nodes

@@ -20,7 +20,7 @@ returns-in-Some-first_conflict g c =
     let slots = c.args.routes.now.slots in
     let ts = c.args.transmissions.now in
     faulty.conflict-fault c.nodes-n.result conflict parents slots ts (λ i. get_or c.args.steps.now i 0)
-    c.in-default.ensures c.in-Some-first_conflict.at c.in-Some-first_conflict.ensures
+    c.in_default.ensures c.in-Some-first_conflict.at c.in-Some-first_conflict.ensures
     ∙ ap (λ n. step_fault n conflict parents slots ts (λ i. get_or c.args.steps.now i 0)) c.nodes-n.ensures
 
 pub returns-in-Some-first_uneven : goal.returns-in-Some-first_uneven
@@ -30,7 +30,7 @@ returns-in-Some-first_uneven g c =
     let slots = c.args.routes.now.slots in
     let ts = c.args.transmissions.now in
     faulty.slot-fault c.nodes-n.result conflict parents slots ts (λ i. get_or c.args.steps.now i 0)
-    c.in-default.ensures c.in-default-first_conflict.ensures c.in-Some-first_uneven.node c.in-Some-first_uneven.ensures
+    c.in_default.ensures c.in_default-first_conflict.ensures c.in-Some-first_uneven.node c.in-Some-first_uneven.ensures
     ∙ ap (λ n. step_fault n conflict parents slots ts (λ i. get_or c.args.steps.now i 0)) c.nodes-n.ensures
 
 pub returns-in-Some-first_early : goal.returns-in-Some-first_early
@@ -40,7 +40,7 @@ returns-in-Some-first_early g c =
     let slots = c.args.routes.now.slots in
     let ts = c.args.transmissions.now in
     faulty.order-fault c.nodes-n.result conflict parents slots ts (λ i. get_or c.args.steps.now i 0)
-    c.in-default.ensures c.in-default-first_conflict.ensures c.in-default-first_uneven.ensures c.in-Some-first_early.at
+    c.in_default.ensures c.in_default-first_conflict.ensures c.in_default-first_uneven.ensures c.in-Some-first_early.at
     c.in-Some-first_early.ensures
     ∙ ap (λ n. step_fault n conflict parents slots ts (λ i. get_or c.args.steps.now i 0)) c.nodes-n.ensures
 
@@ -51,5 +51,5 @@ returns-in-None g c =
     let slots = c.args.routes.now.slots in
     let ts = c.args.transmissions.now in
     faulty.step-sound c.nodes-n.result conflict parents slots ts (λ i. get_or c.args.steps.now i 0)
-    c.in-default.ensures c.in-default-first_conflict.ensures c.in-default-first_uneven.ensures c.in-None.ensures
+    c.in_default.ensures c.in_default-first_conflict.ensures c.in_default-first_uneven.ensures c.in-None.ensures
     ∙ ap (λ n. step_fault n conflict parents slots ts (λ i. get_or c.args.steps.now i 0)) c.nodes-n.ensures

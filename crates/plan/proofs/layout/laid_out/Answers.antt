@@ -2,8 +2,8 @@ use Rattle.std.proofs.Common.{sum, ap, ◌∙◌, arith}
 use Rattle.plan.proofs.Layouts.{front_sum}
 use Rattle.plan.proofs.layout.laid_out.Goals as goal
 
-pub invariant-of-result : goal.invariant-of-result
-invariant-of-result c = (
+pub invariant_of-result : goal.invariant_of-result
+invariant_of-result c = (
   omega arith,
   (
     omega arith,

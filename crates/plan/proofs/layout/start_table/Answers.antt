@@ -3,8 +3,8 @@ use Rattle.plan.proofs.layout.start_table.Goals as goal
 use Rattle.std.proofs.lemmas.List.{get_or-set_other, get_or-set_same, length-set}
 use Rattle.std.proofs.lemmas.List.Sums.{sum_by_more, sum_by-take-le}
 
-pub overflow-add-at : goal.overflow-add-at
-overflow-add-at c =
+pub overflow_add-at : goal.overflow_add-at
+overflow_add-at c =
     let more = sum_by_more (λ x. x) c.args.counts.now c.loop-i.i 0 c.loop-i-test.true in
     let most = sum_by-take-le (λ x. x) c.args.counts.now (c.loop-i.i + 1) in
     omega arith

@@ -4,8 +4,8 @@ use Rattle.plan.proofs.shape.step_table.Goals as goal
 use Rattle.std.proofs.lemmas.List.{take_all}
 use Rattle.std.proofs.lemmas.List.Sums.{sum_by_more, sum_by-take-le}
 
-pub overflow-add-end : goal.overflow-add-end
-overflow-add-end c =
+pub overflow_add-end : goal.overflow_add-end
+overflow_add-end c =
     let most = sum_by-take-le (λ x. x) c.args.counts.now c.loop-i.i in omega arith
 
 pub mark-requires : goal.mark-requires

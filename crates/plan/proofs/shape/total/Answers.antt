@@ -3,8 +3,8 @@ use Rattle.plan.proofs.shape.total.Goals as goal
 use Rattle.std.proofs.lemmas.List.{take_all}
 use Rattle.std.proofs.lemmas.List.Sums.{sum_by_more}
 
-pub overflow-add-all : goal.overflow-add-all
-overflow-add-all c = omega arith
+pub overflow_add-all : goal.overflow_add-all
+overflow_add-all c = omega arith
 
 pub loop-count-preserved : goal.loop-count-preserved
 loop-count-preserved c =

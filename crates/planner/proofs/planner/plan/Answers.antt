@@ -5,5 +5,5 @@ use Rattle.planner.proofs.planner.plan.Goals as goal
 pub fill_steps-requires : goal.fill_steps-requires
 fill_steps-requires g c =
     let few = g.met.M.Interference.most c.args.model.now in
-    let read = c.in-ok-routes.ensures in
+    let read = c.in_ok-routes.ensures in
     (omega arith, (omega arith, (slots-within _ _ few read.0 _ read.1, parents-below _ _ few read.0 _ read.1)))

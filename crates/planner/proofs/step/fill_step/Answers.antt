@@ -19,8 +19,8 @@ bounds-out-size g c =
 pub bounds-left-candidate : goal.bounds-left-candidate
 bounds-left-candidate g c = omega (arith, join-within c.loop-candidate.invariant c.in-Some.candidate c.in-Some.ensures.popped c.pop.auto.places)
 
-pub overflow-sub-left : goal.overflow-sub-left
-overflow-sub-left g c =
+pub overflow_sub-left : goal.overflow_sub-left
+overflow_sub-left g c =
     omega (
       arith,
       join-slots c.loop-candidate.invariant c.in-Some.candidate c.in-Some.ensures.popped c.pop.auto.places
@@ -41,4 +41,4 @@ loop-candidate-preserved-then-is_free g c =
     c.if-is_free.ensures (g.met.M.Interference.shared c.args.model.now) c.requires.1.0
 
 pub returns : goal.returns
-returns g c = join-end c.loop-candidate.invariant c.in-default.ensures.popped.0
+returns g c = join-end c.loop-candidate.invariant c.in_default.ensures.popped.0

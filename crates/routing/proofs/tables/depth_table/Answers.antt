@@ -15,7 +15,7 @@ loop-link-preserved c = (
   simp length-set c.loop-link.invariant.0,
   enter_more (λ r. unwrap_or (hops c.args.parents.now (length c.args.tree.now) r.child) 0) c.args.tree.now _ _
       c.loop-link.link-index _ c.loop-link-test.true
-      (c.unwrap-or.ensures ∙ ap (λ o. unwrap_or o 0) c.hops_of.ensures) c.loop-link.invariant.1,
+      (c.unwrap_or.ensures ∙ ap (λ o. unwrap_or o 0) c.hops_of.ensures) c.loop-link.invariant.1,
 )
 
 pub returns : goal.returns

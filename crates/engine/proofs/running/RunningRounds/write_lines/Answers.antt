@@ -3,12 +3,12 @@ use Rattle.engine.proofs.Rounds.{lines_all, lines_more, runs_at}
 use Rattle.engine.proofs.running.RunningRounds.write_lines.Goals as goal
 use Rattle.std.proofs.lemmas.List.{length-take-le}
 
-pub overflow-sub-lines : goal.overflow-sub-lines
-overflow-sub-lines c =
+pub overflow_sub-lines : goal.overflow_sub-lines
+overflow_sub-lines c =
     (runs_at c.args.slot c.args.self.now.len c.args.self.now.rounds c.loop-i.i c.loop-i-test.true (omega arith) c.requires.run).0
 
-pub overflow-cast-lines : goal.overflow-cast-lines
-overflow-cast-lines c =
+pub overflow_cast-lines : goal.overflow_cast-lines
+overflow_cast-lines c =
     let runs = runs_at c.args.slot c.args.self.now.len c.args.self.now.rounds c.loop-i.i c.loop-i-test.true (omega arith) c.requires.run in
     omega arith
 

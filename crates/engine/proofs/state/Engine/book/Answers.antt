@@ -27,7 +27,7 @@ admit-requires c =
 pub enter-requires : goal.enter-requires
 enter-requires c =
     let e = c.args.self.now in
-    let admitted = c.in-ok-row.ensures in
+    let admitted = c.in_ok-row.ensures in
     let x = booked_row e.next c.args.priority c.args.period c.args.deadline in
     let room = room_left e.length e.distance e.next (take (e.table.count - 0) e.table.rows) x admitted.0 in
     let long = length-take (e.table.count - 0) e.table.rows in
@@ -37,10 +37,10 @@ enter-requires c =
       booked = ap (λ r. is_booked r.phase) admitted.1;
     }
 
-pub invariant-of-self : goal.invariant-of-self
-invariant-of-self c =
+pub invariant_of-self : goal.invariant_of-self
+invariant_of-self c =
     let e = c.args.self.now in
-    let admitted = c.in-ok-row.ensures in
+    let admitted = c.in_ok-row.ensures in
     let x = booked_row e.next c.args.priority c.args.period c.args.deadline in
     let left = number_left e.length e.distance e.next (take (e.table.count - 0) e.table.rows) x admitted.0 in
     let none : admit_refusal e.length e.distance e.next (view e).rows x ≡ None =
@@ -52,30 +52,30 @@ invariant-of-self c =
 pub returns : goal.returns
 returns c =
     let e = c.args.self.now in
-    let admitted = c.in-ok-row.ensures in
+    let admitted = c.in_ok-row.ensures in
     let x = booked_row e.next c.args.priority c.args.period c.args.deadline in
     let none : admit_refusal e.length e.distance e.next (view e).rows x ≡ None =
     ap (λ rows. admit_refusal e.length e.distance e.next rows x) (sym (same_front e.table.rows e.table.count)) ∙ admitted.0 in
     let entered = c.enter.ensures ∙ ap (λ r. (view e).rows ++ r ∷ []) admitted.1 in
     let done =
-    book_done (view e) c.args.priority c.args.period c.args.deadline c.in-ok-row.row.number (rows_of c.enter.new.self)
+    book_done (view e) c.args.priority c.args.period c.args.deadline c.in_ok-row.row.number (rows_of c.enter.new.self)
     (ap (λ r. r.number) admitted.1) none entered in
     record {
       outcome = done;
-      judged = book-judged (view e) e.good c.args.priority c.args.period c.args.deadline (Ok c.in-ok-row.row.number) _ done;
+      judged = book-judged (view e) e.good c.args.priority c.args.period c.args.deadline (Ok c.in_ok-row.row.number) _ done;
       stands =
-          stands_booked (view e).rows (rows_of c.enter.new.self) x c.in-ok-row.row.number (ap (λ r. r.number) admitted.1) refl
+          stands_booked (view e).rows (rows_of c.enter.new.self) x c.in_ok-row.row.number (ap (λ r. r.number) admitted.1) refl
           (below_rows (view e) e.good) entered;
     }
 
-pub returns-in-err-row : goal.returns-in-err-row
-returns-in-err-row c =
+pub returns-in_err-row : goal.returns-in_err-row
+returns-in_err-row c =
     let e = c.args.self.now in
     let x = booked_row e.next c.args.priority c.args.period c.args.deadline in
-    let f = c.in-err-row.field-0.0 in
+    let f = c.in_err-row.field-0.0 in
     let p = err_from_is_err_and c.from-residual.result c.from-residual.ensures.1 in
     let refused : admit_refusal e.length e.distance e.next (view e).rows x ≡ Some f =
-    ap (λ rows. admit_refusal e.length e.distance e.next rows x) (sym (same_front e.table.rows e.table.count)) ∙ c.in-err-row.ensures in
+    ap (λ rows. admit_refusal e.length e.distance e.next rows x) (sym (same_front e.table.rows e.table.count)) ∙ c.in_err-row.ensures in
     let is : booked_by c.from-residual.result ≡ Err f = ap booked_by p.1 ∙ ap Err p.2 in
     let done = ap (λ r. (r, view e)) is ∙ book_refused (view e) c.args.priority c.args.period c.args.deadline f refused in
     record {

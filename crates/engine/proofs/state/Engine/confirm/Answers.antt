@@ -8,8 +8,8 @@ use Rattle.rules.specs.Rows.{confirm_row, row_of}
 use Rattle.rules.specs.Rules.{unless_booked, with_rows}
 use Rattle.rules.specs.declared.call.Call.TheVariants.{Confirm}
 
-pub invariant-of-self : goal.invariant-of-self
-invariant-of-self c =
+pub invariant_of-self : goal.invariant_of-self
+invariant_of-self c =
     let e = c.args.self.now in
     let n = c.args.booking.number in
     let done = settled (view e) (unless_booked (row_of n (view e).rows)) c.change.result (rows_of c.change.new.self) (map (confirm_row n) (view e).rows) c.change.ensures in

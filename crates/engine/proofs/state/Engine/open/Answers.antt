@@ -8,8 +8,8 @@ pub returns-then-first-gt-LAST-SLOT : goal.returns-then-first-gt-LAST-SLOT
 returns-then-first-gt-LAST-SLOT c =
     record { opened = (c.if-first-gt-LAST-SLOT.true, refl); promise = promise_for (plan_of c.args.plan.now) c.args.first }
 
-pub invariant-of-result : goal.invariant-of-result
-invariant-of-result c = (
+pub invariant_of-result : goal.invariant_of-result
+invariant_of-result c = (
   c.length.ensures.bound.1,
   (
     c.distance.ensures.bound,

@@ -7,8 +7,8 @@ use Rattle.rules.specs.Rows.{release_row, row_of}
 use Rattle.rules.specs.Rules.{release_refusal, with_rows}
 use Rattle.rules.specs.declared.call.Call.TheVariants.{Release}
 
-pub invariant-of-self : goal.invariant-of-self
-invariant-of-self c =
+pub invariant_of-self : goal.invariant_of-self
+invariant_of-self c =
     let e = c.args.self.now in
     let done =
     settled (view e) (release_refusal (row_of c.args.number (view e).rows) e.slot) c.change.result

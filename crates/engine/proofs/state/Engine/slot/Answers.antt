@@ -33,8 +33,8 @@ write_lines-count-requires c =
     let fits = fit-now v e.good e.short e.spread (length c.args.lines.now) (take running.len running.rounds) run wide in
     record { fit = fits; run = subst (AllByRecursion (Runs e.slot)) (sym run) (runs-now v e.good e.short e.spread) }
 
-pub invariant-of-self : goal.invariant-of-self
-invariant-of-self c =
+pub invariant_of-self : goal.invariant_of-self
+invariant_of-self c =
     let e = c.args.self.now in
     let v = view e in
     let same = started_any v c.may_start-may.result c.start_any-started.result (rows_of c.start_any-started.new.self) c.may_start-may.ensures c.start_any-started.ensures in

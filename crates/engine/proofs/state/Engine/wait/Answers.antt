@@ -9,8 +9,8 @@ use Rattle.engine.proofs.state.Engine.wait.Goals as goal
 use Rattle.std.proofs.lemmas.List.{length-take}
 use Rattle.std.specs.List.{AllByRecursion}
 
-pub offset-bounds-rows-i : goal.offset-bounds-rows-i
-offset-bounds-rows-i c =
+pub offset_bounds-rows-i : goal.offset_bounds-rows-i
+offset_bounds-rows-i c =
     let t = c.args.self.now.table in
     let below = place_below c.args.number t.count t.rows c.in-Some.i c.in-Some.ensures.row in
     omega arith

@@ -8,8 +8,8 @@ use Rattle.rules.specs.Rows.{other_than, row_of}
 use Rattle.rules.specs.Rules.{unless_booked, with_rows}
 use Rattle.rules.specs.declared.call.Call.TheVariants.{Withdraw}
 
-pub invariant-of-self : goal.invariant-of-self
-invariant-of-self c =
+pub invariant_of-self : goal.invariant_of-self
+invariant_of-self c =
     let e = c.args.self.now in
     let n = c.args.booking.number in
     let done = settled (view e) (unless_booked (row_of n (view e).rows)) c.withdraw.result (rows_of c.withdraw.new.self) (filter (other_than n) (view e).rows) c.withdraw.ensures in

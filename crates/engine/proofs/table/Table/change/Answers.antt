@@ -5,14 +5,14 @@ use Rattle.engine.proofs.Tables.{table_held}
 use Rattle.engine.proofs.table.Table.change.Goals as goal
 use Rattle.std.proofs.lemmas.Result.{err_from_is_err_and}
 
-pub returns-in-err-apply : goal.returns-in-err-apply
-returns-in-err-apply c =
+pub returns-in_err-apply : goal.returns-in_err-apply
+returns-in_err-apply c =
     let table = c.args.self.now in
     let p = err_from_is_err_and c.from-residual.result c.from-residual.ensures.1 in
     rw (p.1, p.2)
     (denied _ _ _ _
     (change_refused c.args.call c.args.slot c.args.number table.count table.rows c.in-Some.i c.apply.new.row
-    c.in-Some.ensures.row (omega arith) _ c.in-err-apply.ensures))
+    c.in-Some.ensures.row (omega arith) _ c.in_err-apply.ensures))
 
 pub put-requires : goal.put-requires
 put-requires c =
@@ -20,48 +20,48 @@ put-requires c =
     let was = table_held table (omega arith) in
     let room =
     release_room c.args.call c.args.slot c.args.number table.count table.rows c.in-Some.i c.apply.new.row c.in-Some.ensures.row
-    (omega arith) c.in-ok-apply.ensures _ was c.in-Release.is in
+    (omega arith) c.in_ok-apply.ensures _ was c.in-Release.is in
     let long = length_queue table.waiting.len table.waiting.places (omega arith) in
     omega arith
 
-pub invariant-of-self : goal.invariant-of-self
-invariant-of-self c =
+pub invariant_of-self : goal.invariant_of-self
+invariant_of-self c =
     let table = c.args.self.now in
     let was = table_held table (omega arith) in
     confirm-facts c.args.call c.args.slot c.args.number table.count table.rows c.in-Some.i c.apply.new.row
-    c.in-Some.ensures.row (omega arith) c.in-ok-apply.ensures _ was (omega arith) c.in-Confirm.is
+    c.in-Some.ensures.row (omega arith) c.in_ok-apply.ensures _ was (omega arith) c.in-Confirm.is
 
-pub invariant-of-self-in-Release : goal.invariant-of-self-in-Release
-invariant-of-self-in-Release c =
+pub invariant_of-self-in-Release : goal.invariant_of-self-in-Release
+invariant_of-self-in-Release c =
     let table = c.args.self.now in
     let was = table_held table (omega arith) in
     release_facts c.args.call c.args.slot c.args.number table.count table.rows c.in-Some.i c.apply.new.row
-    c.in-Some.ensures.row (omega arith) c.in-ok-apply.ensures _ was c.in-Release.is _ (omega arith) c.put.ensures.queue
+    c.in-Some.ensures.row (omega arith) c.in_ok-apply.ensures _ was c.in-Release.is _ (omega arith) c.put.ensures.queue
 
-pub invariant-of-self-in-Close : goal.invariant-of-self-in-Close
-invariant-of-self-in-Close c =
+pub invariant_of-self-in-Close : goal.invariant_of-self-in-Close
+invariant_of-self-in-Close c =
     let table = c.args.self.now in
     let was = table_held table (omega arith) in
     close_facts c.args.call c.args.slot c.args.number table.count table.rows c.in-Some.i c.apply.new.row
-    c.in-Some.ensures.row (omega arith) c.in-ok-apply.ensures _ was (omega arith) c.in-Close.is
+    c.in-Some.ensures.row (omega arith) c.in_ok-apply.ensures _ was (omega arith) c.in-Close.is
 
 pub returns-in-Confirm : goal.returns-in-Confirm
 returns-in-Confirm c =
     let table = c.args.self.now in
     let was = table_held table (omega arith) in
     change-done c.args.call c.args.slot c.args.number table.count table.rows c.in-Some.i c.apply.new.row
-    c.in-Some.ensures.row (omega arith) c.in-ok-apply.ensures _ was
+    c.in-Some.ensures.row (omega arith) c.in_ok-apply.ensures _ was
 
 pub returns-in-Release : goal.returns-in-Release
 returns-in-Release c =
     let table = c.args.self.now in
     let was = table_held table (omega arith) in
     change-done c.args.call c.args.slot c.args.number table.count table.rows c.in-Some.i c.apply.new.row
-    c.in-Some.ensures.row (omega arith) c.in-ok-apply.ensures _ was
+    c.in-Some.ensures.row (omega arith) c.in_ok-apply.ensures _ was
 
 pub returns-in-Close : goal.returns-in-Close
 returns-in-Close c =
     let table = c.args.self.now in
     let was = table_held table (omega arith) in
     change-done c.args.call c.args.slot c.args.number table.count table.rows c.in-Some.i c.apply.new.row
-    c.in-Some.ensures.row (omega arith) c.in-ok-apply.ensures _ was
+    c.in-Some.ensures.row (omega arith) c.in_ok-apply.ensures _ was

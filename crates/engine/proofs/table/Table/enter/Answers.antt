@@ -3,8 +3,8 @@ use Rattle.engine.proofs.Tables.{facts, held_entered, table_held}
 use Rattle.engine.proofs.table.Table.enter.Goals as goal
 use Rattle.std.proofs.lemmas.List.{length-set, take_more_set}
 
-pub invariant-of-self : goal.invariant-of-self
-invariant-of-self c =
+pub invariant_of-self : goal.invariant_of-self
+invariant_of-self c =
     let table = c.args.self.now in
     let room : table.count < length table.rows = omega arith in
     let within : table.count + 1 ≤ length (set table.rows table.count c.args.row) = simp length-set (omega arith) in

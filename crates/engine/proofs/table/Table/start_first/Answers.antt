@@ -5,16 +5,16 @@ use Rattle.engine.proofs.Tables.{Held, held_started, queue_first, table_held, ta
 use Rattle.engine.proofs.table.Table.start_first.Goals as goal
 use Rattle.rules.specs.Rows.{start_row}
 
-pub invariant-of-self : goal.invariant-of-self
-invariant-of-self c =
+pub invariant_of-self : goal.invariant_of-self
+invariant_of-self c =
     let table = c.args.self.now in
     let was = table_held table (omega arith) in
     let first = c.in-Some.first in
     mapped_facts table.count c.start_row.new.rows _ table.rows (start_row first.number) (omega arith) c.start_row.ensures _
     (omega arith) (held_started _ first _ (subst (Held _ _) c.in-Some.ensures.queue was))
 
-pub invariant-of-self-in-None : goal.invariant-of-self-in-None
-invariant-of-self-in-None c =
+pub invariant_of-self-in-None : goal.invariant_of-self-in-None
+invariant_of-self-in-None c =
     let table = c.args.self.now in
     let was = table_held table (omega arith) in
     let none = c.in-None.ensures.queue in

@@ -11,8 +11,8 @@ returns-then-not-self c =
     let table = c.args.self.now in
     none_swept table.closing (rows_of table) c.if-not-self.true table.noted
 
-pub invariant-of-self : goal.invariant-of-self
-invariant-of-self c =
+pub invariant_of-self : goal.invariant_of-self
+invariant_of-self c =
     let table = c.args.self.now in
     let was = table_held table (omega arith) in
     kept_facts c.keep_rows-self.result table.count c.keep_rows-self.new.rows _ table.rows staying (omega arith)

@@ -6,14 +6,14 @@ use Rattle.engine.proofs.table.Table.withdraw.Goals as goal
 use Rattle.rules.specs.Phases.{is_booked}
 use Rattle.rules.specs.Rows.{other_than}
 
-pub returns-in-default-phase : goal.returns-in-default-phase
-returns-in-default-phase c =
+pub returns-in_default-phase : goal.returns-in_default-phase
+returns-in_default-phase c =
     let table = c.args.self.now in
     let row = row_here c.args.number table.count table.rows c.in-Some.i c.in-Some.ensures.row (omega arith) in
-    denied _ _ _ _ (refuses_unbooked c.args.number (take table.count table.rows) (row_at table.rows c.in-Some.i) row c.in-default-phase.not-Booked)
+    denied _ _ _ _ (refuses_unbooked c.args.number (take table.count table.rows) (row_at table.rows c.in-Some.i) row c.in_default-phase.not-Booked)
 
-pub invariant-of-self : goal.invariant-of-self
-invariant-of-self c =
+pub invariant_of-self : goal.invariant_of-self
+invariant_of-self c =
     let table = c.args.self.now in
     let was = table_held table (omega arith) in
     let row = row_here c.args.number table.count table.rows c.in-Some.i c.in-Some.ensures.row (omega arith) in

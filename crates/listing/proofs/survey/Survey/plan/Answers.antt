@@ -11,34 +11,34 @@ use Rattle.std.proofs.lemmas.Result.{err_from_is_err_and}
 whole : {X : Type 0} (n : ℕ) (xs : List X) → take (n - 0) xs ≡ take n xs
 whole n xs = ap (λ k. take k xs) (let e : n - 0 ≡ n = omega arith in e)
 
-pub returns-in-err-model : goal.returns-in-err-model
-returns-in-err-model c =
+pub returns-in_err-model : goal.returns-in_err-model
+returns-in_err-model c =
     let s = c.args.self.now in
     let p = err_from_is_err_and c.from-residual.result c.from-residual.ensures.1 in
     rw (p.1, p.2)
-    (site_refused (site_of s) c.in-err-model.field-0.0
-    (subst (λ es. EdgesRefused s.count es c.in-err-model.field-0.0) (whole s.edge_count s.edges) c.in-err-model.ensures))
+    (site_refused (site_of s) c.in_err-model.field-0.0
+    (subst (λ es. EdgesRefused s.count es c.in_err-model.field-0.0) (whole s.edge_count s.edges) c.in_err-model.ensures))
 
-pub returns-in-err-make_plan : goal.returns-in-err-make_plan
-returns-in-err-make_plan c =
+pub returns-in_err-make_plan : goal.returns-in_err-make_plan
+returns-in_err-make_plan c =
     let s = c.args.self.now in
-    let m = c.in-ok-model.model in
+    let m = c.in_ok-model.model in
     let conflict = graph_conflict m.count (word_edge m.words) in
-    let p = err_from_is_err_and c.from-residual-in-err-make_plan.result c.from-residual-in-err-make_plan.ensures.1 in
+    let p = err_from_is_err_and c.from-residual-in_err-make_plan.result c.from-residual-in_err-make_plan.ensures.1 in
     rw (p.1, p.2)
     (tree-refused (site_of s) m.count conflict
-    (subst (λ es. EdgesMeant s.count es m.count conflict) (whole s.edge_count s.edges) c.in-ok-model.ensures)
-    (plan_of c.new-plan.result) (plan_of c.make_plan.new.place) c.in-err-make_plan.field-0.0
-    (subst (λ ls. Made m.count conflict ls (plan_of c.new-plan.result) (plan_of c.make_plan.new.place) {U = Unit {0}} (Err c.in-err-make_plan.field-0.0))
-    (whole s.link_count s.links) c.in-err-make_plan.ensures.made))
+    (subst (λ es. EdgesMeant s.count es m.count conflict) (whole s.edge_count s.edges) c.in_ok-model.ensures)
+    (plan_of c.new-plan.result) (plan_of c.make_plan.new.place) c.in_err-make_plan.field-0.0
+    (subst (λ ls. Made m.count conflict ls (plan_of c.new-plan.result) (plan_of c.make_plan.new.place) {U = Unit {0}} (Err c.in_err-make_plan.field-0.0))
+    (whole s.link_count s.links) c.in_err-make_plan.ensures.made))
 
 pub returns : goal.returns
 returns c =
     let s = c.args.self.now in
-    let m = c.in-ok-model.model in
+    let m = c.in_ok-model.model in
     let conflict = graph_conflict m.count (word_edge m.words) in
     site-planned (site_of s) m.count conflict
-    (subst (λ es. EdgesMeant s.count es m.count conflict) (whole s.edge_count s.edges) c.in-ok-model.ensures)
+    (subst (λ es. EdgesMeant s.count es m.count conflict) (whole s.edge_count s.edges) c.in_ok-model.ensures)
     (plan_of c.new-plan.result) (plan_of c.make_plan.new.place)
     (subst (λ ls. Made m.count conflict ls (plan_of c.new-plan.result) (plan_of c.make_plan.new.place) {U = Unit {0}} (Ok tt))
-    (whole s.link_count s.links) c.in-ok-make_plan.ensures.made)
+    (whole s.link_count s.links) c.in_ok-make_plan.ensures.made)

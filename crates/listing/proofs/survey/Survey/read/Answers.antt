@@ -32,11 +32,11 @@ returns-in-Nodes c =
     site-again c.args.total (surveyed (site_of c.args.self.now) (script_of c.args.total c.args.bytes.now)) (site_of c.loop-offset.self) c.loop-offset.rest.now
     c.loop-offset.invariant.0 some c.in-Ok.pair.0 c.in-Ok.pair.1.now c.in-Ok.ensures.answer c.in-Nodes.count c.in-Nodes.is
 
-pub returns-in-default : goal.returns-in-default
-returns-in-default c =
+pub returns-in_default : goal.returns-in_default
+returns-in_default c =
     let some : 0 < length c.loop-offset.rest.now = search rules in (
       site-ends c.args.total (surveyed (site_of c.args.self.now) (script_of c.args.total c.args.bytes.now)) (site_of c.loop-offset.self) c.loop-offset.rest.now
-          c.loop-offset.invariant.0 some c.in-Ok.pair.0 c.in-Ok.pair.1.now c.in-Ok.ensures.answer c.in-default.not-Nodes c.in-default.not-Edge c.in-default.not-Tree,
+          c.loop-offset.invariant.0 some c.in-Ok.pair.0 c.in-Ok.pair.1.now c.in-Ok.ensures.answer c.in_default.not-Nodes c.in_default.not-Edge c.in_default.not-Tree,
       c.loop-offset.invariant.1,
       c.loop-offset.invariant.2,
     )

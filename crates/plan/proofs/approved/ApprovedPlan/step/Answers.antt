@@ -3,8 +3,8 @@ use Rattle.plan.proofs.Layouts.{ends_within, part_at}
 use Rattle.plan.proofs.approved.ApprovedPlan.step.Goals as goal
 use Rattle.std.proofs.lemmas.List.{length-take-le}
 
-pub slice-bounds-result-end : goal.slice-bounds-result-end
-slice-bounds-result-end c =
+pub slice_bounds-result-end : goal.slice_bounds-result-end
+slice_bounds-result-end c =
     let p = c.args.self.now in
     let long : p.steps ≤ length p.counts = omega arith in
     let steps = length-take-le p.steps p.counts long in
