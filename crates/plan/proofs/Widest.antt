@@ -16,18 +16,6 @@ module _ (value : ℕ → ℕ) where
   unfolding most_below
   most_step n w x most is = rw (add-one, most, is) refl
 
-  -- the same beside a value that is there from the start
-  pub most_from_start : (least : ℕ) → least ≡ max (most_below value 0) least
-  unfolding most_below
-  most_from_start least = omega arith
-
-  pub most_from_step : (n w least : ℕ) → w ≡ max (most_below value n) least → max (value n) w ≡ max (most_below value (n + 1)) least
-  unfolding most_below
-  most_from_step n w least is = rw (add-one, is) (omega arith)
-
-  pub most_from_end : (i n w least : ℕ) → i ≡ n → w ≡ max (most_below value i) least → w ≡ max (most_below value n) least
-  most_from_end i n w least e is = is ∙ ap (λ k. max (most_below value k) least) e
-
   pub most_end : (i n w : ℕ) → i ≡ n → w ≡ most_below value i → w ≡ most_below value n
   most_end i n w e is = is ∙ ap (most_below value) e
 

@@ -8,9 +8,9 @@ overflow_add-all c = omega arith
 
 pub loop-count-preserved : goal.loop-count-preserved
 loop-count-preserved c =
-    let more = sum_by_more (λ x. x) c.args.counts.now c.loop-count.count_index 0 c.loop-count-test.true in
+    let more = sum_by_more (λ x. x) c.args.counts.now c.loop-count.count-index 0 c.loop-count-test.true in
     (omega arith, omega arith)
 
 pub returns : goal.returns
 returns c =
-    c.loop-count.invariant.0 ∙ ap sum (take_all c.loop-count.count_index c.args.counts.now c.loop-count-test.false)
+    c.loop-count.invariant.0 ∙ ap sum (take_all c.loop-count.count-index c.args.counts.now c.loop-count-test.false)
