@@ -12,10 +12,10 @@ returns-in-Err c =
     in
     search rules
 
-pub loop-rest-preserved-in_ok-append : goal.loop-rest-preserved-in_ok-append
-loop-rest-preserved-in_ok-append c =
+pub loop-rest-preserved-in_ok-append-in-Ok-Some : goal.loop-rest-preserved-in_ok-append-in-Ok-Some
+loop-rest-preserved-in_ok-append-in-Ok-Some c =
     let some : 0 < length c.loop-rest.rest.now = search rules in
-    (packs_more c.args.text.now _ c.loop-rest.rest.now _ _ (c.loop-rest.number + 1) c.loop-rest.invariant.0 some c.next_line.ensures.line c.next_line.ensures.rest c.in-Ok-Some.record _ (search rules) c.in_ok-append.ensures, omega arith)
+    (packs_more c.args.text.now _ c.loop-rest.rest.now _ _ (c.loop-rest.number + 1) c.loop-rest.invariant.0 some c.next_line.ensures.line c.next_line.ensures.rest c.in-Ok-Some.record _ (search rules) c.in_ok-append-in-Ok-Some.ensures, omega arith)
 
 pub loop-rest-preserved : goal.loop-rest-preserved
 loop-rest-preserved c =

@@ -8,8 +8,8 @@ use Rattle.textfile.proofs.printing.print_file.Goals as goal
 pub loop-rest-preserved : goal.loop-rest-preserved
 loop-rest-preserved c =
     let file = c.args.file.now in
-    let byte : (i : ℕ) → get_or file i 0 < 256 = λ i. omega (arith, c.type-inv.file i) in
-    (begun_more (vec_items c.append_line.new.text) c.in-Ok.record c.in-Ok.after.now byte c.loop-rest.invariant.0 c.in-Ok.ensures.answer c.in_ok-append_line.ensures, omega (arith, c.in-Ok.ensures.shorter))
+    let byte : (i : ℕ) → get_or file i 0 < 256 = λ i. omega (arith, c.type_inv.file i) in
+    (begun_more (vec_items c.append_line.new.text) c.in-Ok.record c.in-Ok.after.now byte c.loop-rest.invariant.0 c.in-Ok.ensures.answer c.in_ok-append_line-in-Ok.ensures, omega (arith, c.in-Ok.ensures.shorter))
 
 pub returns-in-Err : goal.returns-in-Err
 returns-in-Err c =
