@@ -14,7 +14,7 @@ import re
 import sys
 from pathlib import Path
 
-DECLARED = re.compile(r"^(?:  )?(?:(?:unfoldable|abbrev|pub|record|data) )*([^\s(){}\[\],;.:|=]+)(?: \(.*\)| \{.*\})? :(?:\s|$)")
+DECLARED = re.compile(r"^(?:(?:  )?| *pub )(?:(?:unfoldable|abbrev|pub|record|data) )*([^\s(){}\[\],;.:|=]+)(?: \(.*\)| \{.*\})? :(?:\s|$)")
 WORD = re.compile(r"[^\s(){}\[\],;.:|`\"*]+")
 # functions whose names may stand on either side of a dash
 FUNCTIONS = set(

@@ -186,16 +186,16 @@ module _ (call : RowCall) (slot n count : ℕ) (rows : List Row) (i : ℕ) (x : 
         written n count rows i stands within (change_by call slot n) x (changes_others call slot n) h.rising
         (result ∙ ap (λ k. change_by call slot k (row_at rows i)) number)
 
-    pub change-done : ◌≡◌ {A = Result (Unit {0}) Refusal × List Row} (Ok tt, take count (set rows i x))
+    pub change_done : ◌≡◌ {A = Result (Unit {0}) Refusal × List Row} (Ok tt, take count (set rows i x))
         (unless_refused (refusal_by call slot (row_of n (take count rows))) (take count rows) (map (change_by call slot n) (take count rows)))
-    change-done = done _ _ _ _ (ap (refusal_by call slot) (row_here n count rows i stands within) ∙ fine) change-written
+    change_done = done _ _ _ _ (ap (refusal_by call slot) (row_here n count rows i stands within) ∙ fine) change-written
 
     change-facts : {closing' : Bool} (after : List Waiting) → count ≤ 32 → Held closing' (map (change_by call slot n) (take count rows)) after
         → Facts closing' count (set rows i x) after
     change-facts after small held = facts count (set rows i x) (simp length-set within) after _ small change-written held
 
-    pub confirm-facts : count ≤ 32 → call ≡ Confirm → Facts closing count (set rows i x) queue
-    confirm-facts small is =
+    pub confirm_facts : count ≤ 32 → call ≡ Confirm → Facts closing count (set rows i x) queue
+    confirm_facts small is =
         change-facts queue small
         (subst (λ c. Held closing (map (change_by c slot n) (take count rows)) queue) (sym is)
         (held_confirmed (take count rows) queue h n (row_at rows i) (row_here n count rows i stands within)

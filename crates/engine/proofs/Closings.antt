@@ -132,3 +132,7 @@ swept_none (h ∷ rows) e =
         → none_closed (cond b (h ∷ filter staying rows) (filter staying rows)) ≡ true
     go true s w rest = and_from (not (is_closed h.phase)) _ (quiet_unclosed h.phase w s) rest
     go false s w rest = rest
+
+pub swept_noted : (waited : Bool) (rows : List Row) → (waited ≡ false → first_in_rank waits rows ≡ None) → Noted waited (filter staying rows)
+swept_noted true rows quiet = refl
+swept_noted false rows quiet = swept_none rows (quiet refl)

@@ -3,7 +3,7 @@ use Rattle.std.proofs.Common.{◌≡◌, ℕ, ◌≤◌, Bool, true, false, cond
 use Rattle.engine.specs.declared.waiting.Waiting.{Waiting}
 use Rattle.engine.specs.Entries.{entry_of, queue_of, sooner, waiting_of}
 use Rattle.engine.proofs.Numbers.{Rising, each_row, past_number, rising_unique}
-use Rattle.queue.proofs.Ranked.{length-ranked, placed_first, ranked-in-order, ranked-shuffled, shuffled_placed}
+use Rattle.queue.proofs.Ranked.{length-ranked, placed_first, ranked_in_order, ranked_shuffled, shuffled_placed}
 use Rattle.queue.specs.Heap.{First}
 use Rattle.queue.specs.Order.{Order}
 use Rattle.queue.specs.Ranked.{InOrder, placed, ranked}
@@ -40,7 +40,7 @@ sooner_self x = grind (arith, nat_tests)
 
 placed_swap : (x y : Waiting) (zs : List Waiting) → placed sooner x (placed sooner y (ranked sooner zs)) ≡ placed sooner y (placed sooner x (ranked sooner zs))
 placed_swap x y zs =
-    ranked-shuffled sooner sooner_order (x ∷ y ∷ zs) (y ∷ x ∷ zs)
+    ranked_shuffled sooner sooner_order (x ∷ y ∷ zs) (y ∷ x ∷ zs)
     (IsPermutation-swap (x ∷ y ∷ zs) (y ∷ x ∷ zs) 0 1 (omega arith) (omega arith) refl)
 
 -- the queue holds as many entries as its length says
@@ -273,7 +273,7 @@ start_first rows y x rest up e some =
     let own = row_found y.number rows (rising_unique rows up) y leads.inside refl in
     let left = ranked sooner (waiting_of (map (start_row y.number) rows)) in
     let taken : ranked sooner (waiting_of rows) ≡ placed sooner (entry_of y) left = start_waiting y.number rows y up own leads.passes in
-    let ordered = subst (InOrder sooner) front.1 (ranked-in-order sooner sooner_order (waiting_of rows)) in
+    let ordered = subst (InOrder sooner) front.1 (ranked_in_order sooner sooner_order (waiting_of rows)) in
     let whole : First sooner (entry_of y) (placed sooner (entry_of y) left) =
     subst (First sooner (entry_of y)) (sym front.1 ∙ taken) (sooner_self (entry_of y), ordered.0) in
     let fore = all_shuffled (λ z. sooner z (entry_of y) ≡ false) _ _ (IsPermutation-sym _ _ (shuffled_placed sooner (entry_of y) left)) whole in

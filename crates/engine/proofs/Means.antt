@@ -72,8 +72,8 @@ module _ (v : View) (good : ∥ Inv v ∥₁) where
         go true e false true = tt
         go true e false false = named _ (admission v.length v.distance (v.rows ++ x ∷ []) (short e))
 
-    pub book-judged : (r : Result ℕ Refusal) (w : View) → (r, w) ≡ book priority period deadline v → JudgedIn v priority period deadline r
-    book-judged r w e = subst (JudgedIn v priority period deadline) (sym (ap (λ p. p.0) e)) judged
+    pub book_judged : (r : Result ℕ Refusal) (w : View) → (r, w) ≡ book priority period deadline v → JudgedIn v priority period deadline r
+    book_judged r w e = subst (JudgedIn v priority period deadline) (sym (ap (λ p. p.0) e)) judged
 
-    pub trial-judged : (r : Result ℕ Refusal) (w : View) → (r, w) ≡ trial priority period deadline v → JudgedIn v priority period deadline r
-    trial-judged r w e = subst (JudgedIn v priority period deadline) (sym (ap (λ p. p.0) e ∙ (trial_same priority period deadline v).0)) judged
+    pub trial_judged : (r : Result ℕ Refusal) (w : View) → (r, w) ≡ trial priority period deadline v → JudgedIn v priority period deadline r
+    trial_judged r w e = subst (JudgedIn v priority period deadline) (sym (ap (λ p. p.0) e ∙ (trial_same priority period deadline v).0)) judged

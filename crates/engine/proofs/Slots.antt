@@ -71,33 +71,33 @@ module _ (v : View) where
       )
 
   module _ (good : ∥ Inv v ∥₁) (short : v.length ≤ 256) (spread : 1 ≤ v.distance) where
-    pub runs-now : AllByRecursion (Runs v.slot) (start_any v).running
-    runs-now =
+    pub runs_now : AllByRecursion (Runs v.slot) (start_any v).running
+    runs_now =
         All-from_get_or (Runs v.slot) (start_any v).running free
         (λ i h. (∥∥₁_elim good le_prop (λ k. (at k i h).0), ∥∥₁_elim good le_prop (λ k. (at k i h).1)))
       where
         at : Inv v → (i : ℕ) → i < length (start_any v).running → Runs v.slot (get_or (start_any v).running i free)
         at k i h = All-get_or (Runs v.slot) (start_any v).running i free h (runs_all _ _ _ _ (start_any v).running (omega arith) (running_now k).1)
 
-    pub few-now : length (start_any v).running ≤ most_lines v
-    few-now = let few = few_lines v good in rw (sym (length-map (start_any v).running (line_at (start_any v).slot))) few
+    pub few_now : length (start_any v).running ≤ most_lines v
+    few_now = let few = few_lines v good in rw (sym (length-map (start_any v).running (line_at (start_any v).slot))) few
 
     few-most : most_lines v < 257
     few-most = (div-lt_iff_lt-mul spread).1 (omega arith)
 
     -- there is a place for the round that starts
-    pub room-now : (r : Option ℕ) (rows' : List Row) → started_by r rows' v ≡ start_any v → is_some r ≡ true → length v.running < 256
-    room-now None rows' e some = absurd (false≢true some)
-    room-now (Some n) rows' e some =
-        let few = few-now in
+    pub room_now : (r : Option ℕ) (rows' : List Row) → started_by r rows' v ≡ start_any v → is_some r ≡ true → length v.running < 256
+    room_now None rows' e some = absurd (false≢true some)
+    room_now (Some n) rows' e some =
+        let few = few_now in
         let most = few-most in
         let same = ap (λ w. length w.running) e in
         let more = length-append v.running (record { number = n; start = v.slot } ∷ []) in
         omega arith
 
     -- the rounds that run fit into every list that the slot accepts
-    pub fit-now : (room : ℕ) (rs : List Round) → rs ≡ (start_any v).running → most_lines v ≤ room → length rs ≤ room
-    fit-now room rs same wide = let few = few-now in let long = ap (λ l. length l) same in omega arith
+    pub fit_now : (room : ℕ) (rs : List Round) → rs ≡ (start_any v).running → most_lines v ≤ room → length rs ≤ room
+    fit_now room rs same wide = let few = few_now in let long = ap (λ l. length l) same in omega arith
 
   -- the slot, out of its parts
   pub wide_by : (room steps distance : ℕ) → steps ≡ v.length → distance ≡ v.distance → (steps + (distance - 1)) / distance ≤ room

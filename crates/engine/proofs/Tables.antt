@@ -6,7 +6,7 @@ use Rattle.engine.specs.Closings.{none_closed}
 use Rattle.engine.specs.Entries.{entry_of, numbers_of, priorities_of, queue_of, sooner, waiting_of}
 use Rattle.engine.specs.Rows.{row_at}
 use Rattle.engine.specs.Views.{rows_of}
-use Rattle.engine.proofs.Closings.{Noted, noted_confirmed, noted_entered, noted_kept, noted_released, noted_started, swept_none}
+use Rattle.engine.proofs.Closings.{Noted, noted_confirmed, noted_entered, noted_kept, noted_released, noted_started, swept_noted}
 use Rattle.engine.proofs.Entries.{book_waiting, booked_waits, close_waiting, confirm_waiting, first_none, first_some, release_waiting, start_first, sweep_waiting, withdraw_waiting}
 use Rattle.engine.proofs.Numbers.{Rising, rising_kept, rising_map, rising_push}
 use Rattle.engine.proofs.Places.{rising_list, rising_places}
@@ -63,12 +63,13 @@ pub record Held (closing : Bool) (rows : List Row) (queue : List Waiting) : Type
 
 -- the same by place, over the rows in the first places of a list
 abbrev pub Facts : Bool → ℕ → List Row → List Waiting → Type 0
-Facts closing count rows queue =
-    (count ≤ 32)
-    × (((k : ℕ) → k + 1 < count → (row_at rows k).number < (row_at rows (k + 1)).number)
-    × ((priorities_of queue ≡ priorities_of (ranked sooner (waiting_of (take count rows))))
-    × ((numbers_of queue ≡ numbers_of (ranked sooner (waiting_of (take count rows))))
-    × (((closing || none_closed (take count rows)) ≡ true) × Unit {0}))))
+Facts closing count rows queue = record {
+  within : count ≤ 32;
+  rising : (k : ℕ) → k + 1 < count → (row_at rows k).number < (row_at rows (k + 1)).number;
+  ranks : priorities_of queue ≡ priorities_of (ranked sooner (waiting_of (take count rows)));
+  numbers : numbers_of queue ≡ numbers_of (ranked sooner (waiting_of (take count rows)));
+  noted : (closing || none_closed (take count rows)) ≡ true;
+}
 
 module _ (count : ℕ) (rows : List Row) (within : count ≤ length rows) where
   at : (k : ℕ) → k < count → row_at (take count rows) k ≡ row_at rows k
@@ -95,7 +96,13 @@ module _ (count : ℕ) (rows : List Row) (within : count ≤ length rows) where
       → Facts closing count rows queue
   facts {closing} queue table small e h =
       let here = subst (λ t. Held closing t queue) (sym e) h in
-      (small, (rising_first here.rising, (ap priorities_of here.queued, (ap numbers_of here.queued, (here.noted, tt)))))
+      record {
+        within = small;
+        rising = rising_first here.rising;
+        ranks = ap priorities_of here.queued;
+        numbers = ap numbers_of here.queued;
+        noted = here.noted;
+      }
 
 pub table_queued : (t : Table) → queue_of t.waiting.len t.waiting.places ≡ ranked sooner (waiting_of (rows_of t))
 table_queued t = same_entries _ _ t.ranks t.numbers
@@ -122,11 +129,12 @@ module _ {closing : Bool} (rows : List Row) (queue : List Waiting) (h : Held clo
     noted = noted_entered closing rows h.noted x booked;
   }
 
-  pub held_swept : first_in_rank waits rows ≡ None → Held false (filter staying rows) queue
-  held_swept quiet = record {
+  -- where no round waits, no closed row is left
+  pub held_swept : (waited : Bool) → (waited ≡ false → first_in_rank waits rows ≡ None) → Held waited (filter staying rows) queue
+  held_swept waited quiet = record {
     rising = rising_kept staying rows h.rising;
     queued = h.queued ∙ ap (ranked sooner) (sym (sweep_waiting rows));
-    noted = swept_none rows quiet;
+    noted = swept_noted waited rows quiet;
   }
 
   pub held_withdrawn : (n : ℕ) (q : Row) → row_of n rows ≡ Some q → is_booked q.phase ≡ true → Held closing (filter (other_than n) rows) queue

@@ -91,16 +91,15 @@ impl Table {
         Ok(())
     }
 
-    /// Removes the queries that are leaving, where no round waits. In most slots none is, and no row is looked at.
+    /// Removes the queries that are leaving with no round waiting. In most slots none is, and no row is looked at.
     pub(crate) fn sweep(&mut self)
-        requires { first_in_rank waits (rows_of self.old) ≡ None }
         ensures { rows_of self.new ≡ filter staying (rows_of self.old) }
     {
         if !self.closing {
             return;
         }
         self.count = keep_rows(&mut self.rows[0..self.count], Staying::NotLeaving);
-        self.closing = false;
+        self.closing = !self.waiting.is_empty();
     }
 
     /// Whether no round waits.

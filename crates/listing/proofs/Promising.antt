@@ -61,8 +61,8 @@ module _ (s : Site) where
         approved s.count (conflict_of s) s.links (flat (steps_of s)) (sizes (steps_of s)) draft-sound (planned s).distance
         (spaced (conflict_of s) (flat (steps_of s)) (step_of (sizes (steps_of s))))
 
-    pub day-promised : (script : Script) → DayPromised s script
-    day-promised script = record {
+    pub day_promised : (script : Script) → DayPromised s script
+    day_promised script = record {
       plan = record {
         sent = refl;
         counted = refl;
@@ -74,4 +74,4 @@ module _ (s : Site) where
     }
 
 pub file_promised : (file : List ℕ) → FilePromised file
-file_promised file s script described sound = day-promised s sound script
+file_promised file s script described sound = day_promised s sound script

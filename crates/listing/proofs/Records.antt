@@ -32,12 +32,12 @@ module _ (before : Story) (total : ℕ) (out : List ℕ) (i : ℕ) (v : View) (b
   day_broken f some e whole out₀ h = retold (ap (day_story v) (script_broken total bs f some e)) (sofar whole out₀ h)
 
   module _ (r : Record) (rest : List ℕ) (some : 0 < length bs) (e : next_of bs ≡ Ok (r, rest)) (v' : View) (out'' : List ℕ) where
-    pub day-on : (k : ℕ) → Played (total - length bs) r v v' out' j out'' (Ok k)
+    pub day_on : (k : ℕ) → Played (total - length bs) r v v' out' j out'' (Ok k)
         → Turned before out i (day_story v' (script_of total rest)) out'' k
-    day-on k played whole out₀ h =
+    day_on k played whole out₀ h =
         played (script_of total rest) whole out₀ (retold (ap (day_story v) (script_next total bs r rest some e)) (sofar whole out₀ h))
 
-    pub day-stopped : (halt : Halt) → Played (total - length bs) r v v' out' j out'' (Err halt)
+    pub day_stopped : (halt : Halt) → Played (total - length bs) r v v' out' j out'' (Err halt)
         → Turned before out i (Ends (stopped halt.fault (total - length bs))) out'' halt.length
-    day-stopped halt played whole out₀ h =
+    day_stopped halt played whole out₀ h =
         played (script_of total rest) whole out₀ (retold (ap (day_story v) (script_next total bs r rest some e)) (sofar whole out₀ h))

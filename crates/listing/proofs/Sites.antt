@@ -61,9 +61,9 @@ module _ (s : Site) where
     past-graph : site_fault s ≡ option_map Routing (tree_fault s.count s.links)
     past-graph = ap (λ o. or_else (option_map Graph o) (option_map Routing (tree_fault s.count s.links))) (graph_sound _ _ _ _ meant)
 
-    pub tree-refused : (before after : Plan) (f : TreeFault) → Made nodes conflict s.links before after {U = Unit {0}} (Err f)
+    pub tree_refused : (before after : Plan) (f : TreeFault) → Made nodes conflict s.links before after {U = Unit {0}} (Err f)
         → site_fault s ≡ Some (Routing f)
-    tree-refused before after f (refused, same) =
+    tree_refused before after f (refused, same) =
         past-graph ∙ ap (option_map Routing) (ap (λ n. tree_fault n s.links) (sym meant.count) ∙ refused)
 
     planned-is : (p : Plan) → Holds (conflict_of s) (steps_of s) p → p ≡ planned s
@@ -75,9 +75,9 @@ module _ (s : Site) where
           ∙ (λ j. distance_of (conflict_of s) (holds.sent j) (step_of (holds.counted j)))) k;
     }
 
-    pub site-planned : (before after : Plan) → Made nodes conflict s.links before after {U = Unit {0}} (Ok tt)
+    pub site_planned : (before after : Plan) → Made nodes conflict s.links before after {U = Unit {0}} (Ok tt)
         → (site_fault s ≡ None) × (after ≡ planned s)
-    site-planned before after made =
+    site_planned before after made =
         let one = subst (λ n. Made n conflict s.links before after {U = Unit {0}} (Ok tt)) meant.count made in
         let (sound, holds) = subst (λ f. Made s.count f s.links before after {U = Unit {0}} (Ok tt)) same-conflict one in
         (past-graph ∙ ap (option_map Routing) sound, planned-is after holds)

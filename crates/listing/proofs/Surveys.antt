@@ -41,27 +41,27 @@ module _ (total : ℕ) (x : Result (Site × Script) Stop) (s : Site) (bs : List 
   site_over none = sofar ∙ ap (surveyed s) (script_end total bs none) ∙ ap (λ t. Ok (s, t)) (sym (script_end total bs none))
 
   module _ (some : 0 < length bs) where
-    pub site-broken : (f : ReadFault) → next_of bs ≡ Err f → x ≡ Err (stop_at (Unreadable f) (total - length bs))
-    site-broken f e = sofar ∙ ap (surveyed s) (script_broken total bs f some e)
+    pub site_broken : (f : ReadFault) → next_of bs ≡ Err f → x ≡ Err (stop_at (Unreadable f) (total - length bs))
+    site_broken f e = sofar ∙ ap (surveyed s) (script_broken total bs f some e)
 
     module _ (r : Record) (rest : List ℕ) (e : next_of bs ≡ Ok (r, rest)) where
       turn : x ≡ surveyed s (Next r (total - length bs) (script_of total rest))
       turn = sofar ∙ ap (surveyed s) (script_next total bs r rest some e)
 
-      pub site-again : (n : ℕ) → r ≡ Nodes n → x ≡ Err (stop_at Order (total - length bs))
-      site-again n is = turn ∙ ap (λ q. surveyed s (Next q (total - length bs) (script_of total rest))) is
+      pub site_again : (n : ℕ) → r ≡ Nodes n → x ≡ Err (stop_at Order (total - length bs))
+      site_again n is = turn ∙ ap (λ q. surveyed s (Next q (total - length bs) (script_of total rest))) is
 
-      pub site-edge : (a b : ℕ) (s' : Site) → r ≡ Edge a b → s' ≡ with_edge s a b → x ≡ surveyed s' (script_of total rest)
-      site-edge a b s' is noted =
+      pub site_edge : (a b : ℕ) (s' : Site) → r ≡ Edge a b → s' ≡ with_edge s a b → x ≡ surveyed s' (script_of total rest)
+      site_edge a b s' is noted =
           turn ∙ ap (λ q. surveyed s (Next q (total - length bs) (script_of total rest))) is ∙ ap (λ t. surveyed t (script_of total rest)) (sym noted)
 
-      pub site-link : (c p k : ℕ) (s' : Site) → r ≡ Tree c p k → s' ≡ with_link s c p k → x ≡ surveyed s' (script_of total rest)
-      site-link c p k s' is noted =
+      pub site_link : (c p k : ℕ) (s' : Site) → r ≡ Tree c p k → s' ≡ with_link s c p k → x ≡ surveyed s' (script_of total rest)
+      site_link c p k s' is noted =
           turn ∙ ap (λ q. surveyed s (Next q (total - length bs) (script_of total rest))) is ∙ ap (λ t. surveyed t (script_of total rest)) (sym noted)
 
-      pub site-ends : ((n : ℕ) → r ≡ Nodes n → ⊥) → ((a b : ℕ) → r ≡ Edge a b → ⊥) → ((c p k : ℕ) → r ≡ Tree c p k → ⊥)
+      pub site_ends : ((n : ℕ) → r ≡ Nodes n → ⊥) → ((a b : ℕ) → r ≡ Edge a b → ⊥) → ((c p k : ℕ) → r ≡ Tree c p k → ⊥)
           → x ≡ Ok (s, script_of total bs)
-      site-ends no-nodes no_edge no-tree =
+      site_ends no-nodes no_edge no-tree =
           turn ∙ day_begins s r (total - length bs) (script_of total rest) no-nodes no_edge no-tree
           ∙ ap (λ t. Ok (s, t)) (sym (script_next total bs r rest some e))
 
@@ -77,13 +77,13 @@ module _ (file : List ℕ) where
   first_broken f some e = ap site_in (script_broken (length file) file f some e) ∙ ap (λ o. Err (stop_at (Unreadable f) o)) at_front
 
   module _ (r : Record) (rest : List ℕ) (some : 0 < length file) (e : next_of file ≡ Ok (r, rest)) where
-    pub first-nodes : (n : ℕ) → r ≡ Nodes n → site_in (script_of (length file) file) ≡ surveyed (bare n) (script_of (length file) rest)
-    first-nodes n is =
+    pub first_nodes : (n : ℕ) → r ≡ Nodes n → site_in (script_of (length file) file) ≡ surveyed (bare n) (script_of (length file) rest)
+    first_nodes n is =
         ap site_in (script_next (length file) file r rest some e)
         ∙ ap (λ q. site_in (Next q (length file - length file) (script_of (length file) rest))) is
 
-    pub first-other : ((n : ℕ) → r ≡ Nodes n → ⊥) → site_in (script_of (length file) file) ≡ Err (stop_at Order 0)
-    first-other no-nodes =
+    pub first_other : ((n : ℕ) → r ≡ Nodes n → ⊥) → site_in (script_of (length file) file) ≡ Err (stop_at Order 0)
+    first_other no-nodes =
         ap site_in (script_next (length file) file r rest some e)
         ∙ not_first r (length file - length file) (script_of (length file) rest) no-nodes ∙ ap (λ o. Err (stop_at Order o)) at_front
 

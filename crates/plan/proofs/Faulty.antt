@@ -12,19 +12,19 @@ module _ (n : ℕ) (conflict : Transmission → Transmission → Bool) (parents 
   stray_fault k found = rw (← found) refl
 
   module _ (linked : None ≡ first_below (λ j. is_stray n parents (transmission_at ts j)) (length ts)) where
-    pub conflict-fault : (k : ℕ) → Some k ≡ first_below (conflicts_at conflict ts step) (length ts)
+    pub conflict_fault : (k : ℕ) → Some k ≡ first_below (conflicts_at conflict ts step) (length ts)
         → Some (Conflicting k) ≡ step_fault n conflict parents slots ts step
-    conflict-fault k found = rw (← linked, ← found) refl
+    conflict_fault k found = rw (← linked, ← found) refl
 
     module _ (apart : None ≡ first_below (conflicts_at conflict ts step) (length ts)) where
-      pub slot-fault : (v : ℕ) → Some v ≡ first_below (is_uneven slots ts) n
+      pub slot_fault : (v : ℕ) → Some v ≡ first_below (is_uneven slots ts) n
           → Some (SlotCount v) ≡ step_fault n conflict parents slots ts step
-      slot-fault v found = rw (← linked, ← apart, ← found) refl
+      slot_fault v found = rw (← linked, ← apart, ← found) refl
 
       module _ (even : None ≡ first_below (is_uneven slots ts) n) where
-        pub order-fault : (k : ℕ) → Some k ≡ first_below (is_early ts step) (length ts)
+        pub order_fault : (k : ℕ) → Some k ≡ first_below (is_early ts step) (length ts)
             → Some (OutOfOrder k) ≡ step_fault n conflict parents slots ts step
-        order-fault k found = rw (← linked, ← apart, ← even, ← found) refl
+        order_fault k found = rw (← linked, ← apart, ← even, ← found) refl
 
-        pub step-sound : None ≡ first_below (is_early ts step) (length ts) → None ≡ step_fault n conflict parents slots ts step
-        step-sound found = rw (← linked, ← apart, ← even, ← found) refl
+        pub step_sound : None ≡ first_below (is_early ts step) (length ts) → None ≡ step_fault n conflict parents slots ts step
+        step_sound found = rw (← linked, ← apart, ← even, ← found) refl

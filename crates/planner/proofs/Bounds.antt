@@ -23,11 +23,11 @@ module _ (n : ℕ) (ls : List TreeLink) (few : n ≤ 64) (good : tree_fault n ls
   indexes = all_index n ls few (mapped_none _ _ (or_else_none _ _ (or_else_none _ _ good).1).0)
 
   module _ (routes : Routes) (is : routes ≡ routes_of ls) where
-    pub parents-below : AllByRecursion (λ p. p < 64) routes.parents
-    parents-below = rw is (parents_index ls indexes)
+    pub parents_below : AllByRecursion (λ p. p < 64) routes.parents
+    parents_below = rw is (parents_index ls indexes)
 
-    pub slots-within : sum routes.slots ≤ 256
-    slots-within =
+    pub slots_within : sum routes.slots ≤ 256
+    slots_within =
         let most = sum_by_le (λ k. k) 4 (slot_table ls) (slots_few ls indexes) in
         let sized : length (slot_table ls) ≡ 64 = length_entered (λ l. l.slots) ls (replicate 64 0) ∙ length-replicate {A = ℕ} 64 0 in
         rw is (omega (arith, most, sized))

@@ -118,9 +118,9 @@ module _ {conflict : Transmission → Transmission → Bool} {n : ℕ} {routes :
         rw turn (steps_more conflict n routes (256 - (steps + 1)) left (omega (arith, was.total)))
         ∙ ap (λ xs. step ∷ steps_from conflict n routes (256 - (steps + 1)) xs) (sym filled.counted)
 
-    pub plan-more : Planning conflict n routes goal first former fewer (remaining - size) (sent + size) (steps + 1)
+    pub plan_more : Planning conflict n routes goal first former fewer (remaining - size) (sent + size) (steps + 1)
         (put_mid sent (length ts - sent) ts after) (set cs steps size)
-    plan-more =
+    plan_more =
         let fits : sent + size ≤ length ts = omega (arith, was.kept, was.long, was.total, filled.used) in
         let wide : steps < length cs = omega (arith, was.wide) in
         record {
@@ -154,8 +154,8 @@ module _ {conflict : Transmission → Transmission → Bool} {n : ℕ} {routes :
     all-counts : take steps cs ≡ sizes goal
     all-counts = sym (append-nil (take steps cs)) ∙ sym (ap (λ xs. take steps cs ++ sizes xs) none) ∙ was.counts
 
-    pub plan-end : StepsFilled goal first former ts cs (record { transmissions = sent; steps = steps })
-    plan-end =
+    pub plan_end : StepsFilled goal first former ts cs (record { transmissions = sent; steps = steps })
+    plan_end =
         let within : sent ≤ length ts = omega (arith, was.kept, was.long) in
         let inside : steps ≤ length cs = omega (arith, was.few, was.wide) in
         record {

@@ -8,7 +8,7 @@ use Rattle.planner.specs.Planner.{Filling, candidate_of, deeper, is_free, is_rea
 use Rattle.queue.specs.Heap.{Heap, Popped}
 use Rattle.queue.specs.Order.{Order}
 use Rattle.queue.specs.Ranked.{ranked}
-use Rattle.queue.proofs.Ranked.{popped-ranked, ranked-shuffled}
+use Rattle.queue.proofs.Ranked.{popped_ranked, ranked_shuffled}
 use Rattle.routing.specs.declared.routes.Routes.{Routes}
 use Rattle.std.proofs.lemmas.List.FromFn.{get_or-range_with_len, length-range_with_len}
 use Rattle.std.proofs.ByRecursion.{All-from_get_or, All-map, All-weaker, all_shuffled}
@@ -121,17 +121,17 @@ module _ {conflict : Transmission → Transmission → Bool} {parents : List ℕ
     others = all_shuffled (Able conflict parents (so_far conflict parents size out left)) _ _ taken.holds was.able
 
     next : join_all conflict parents (ranked deeper (take (waiting - 1) after)) (join conflict parents c (so_far conflict parents size out left)) ≡ goal
-    next = sym (ap (λ cs. join_all conflict parents cs (so_far conflict parents size out left)) (popped-ranked deeper deeper_order c waiting places after was.heaped taken)) ∙ was.leads
+    next = sym (ap (λ cs. join_all conflict parents cs (so_far conflict parents size out left)) (popped_ranked deeper deeper_order c waiting places after was.heaped taken)) ∙ was.leads
 
-    pub join-within : c.node < length start
-    join-within = omega (arith, others.0.within, was.count)
+    pub join_within : c.node < length start
+    join_within = omega (arith, others.0.within, was.count)
 
     -- the code asks of `&out[0..size]`
     asked : (b : Bool) → b ≡ is_free conflict (take (size - 0) out) (to_parent parents c.node) → is_free conflict (take size out) (to_parent parents c.node) ≡ b
     asked b e = let all : size ≡ size - 0 = omega arith in ap (λ k. is_free conflict (take k out) (to_parent parents c.node)) all ∙ sym e
 
-    pub join-none : false ≡ is_free conflict (take (size - 0) out) (to_parent parents c.node) → Joining conflict parents goal first start after (waiting - 1) size out left
-    join-none held = record {
+    pub join_none : false ≡ is_free conflict (take (size - 0) out) (to_parent parents c.node) → Joining conflict parents goal first start after (waiting - 1) size out left
+    join_none held = record {
       held = same ∙ was.held;
       few = omega (arith, was.few);
       heaped = taken.heaped was.heaped;
@@ -145,18 +145,18 @@ module _ {conflict : Transmission → Transmission → Bool} {parents : List ℕ
     }
 
     module _ (free : true ≡ is_free conflict (take (size - 0) out) (to_parent parents c.node)) where
-      pub join-slots : 0 < get_or left c.node 0
-      join-slots = others.0.slots (asked true free)
+      pub join_slots : 0 < get_or left c.node 0
+      join_slots = others.0.slots (asked true free)
 
-      pub join-room : sum start ≤ length first → size < length out
-      join-room fits = omega (arith, was.kept, was.long, join-slots, get_or-le-sum_by (λ x. x) left c.node 0 others.0.within)
+      pub join_room : sum start ≤ length first → size < length out
+      join_room fits = omega (arith, was.kept, was.long, join_slots, get_or-le-sum_by (λ x. x) left c.node 0 others.0.within)
 
       pub join_more : ((a b : Transmission) → share a b ≡ true → conflict a b ≡ true) → sum start ≤ length first
           → Joining conflict parents goal first start after (waiting - 1) (size + 1) (set out size (to_parent parents c.node)) (set left c.node (get_or left c.node 0 - 1))
       join_more shared fits =
           let t = to_parent parents c.node in
           let less : List ℕ = set left c.node (get_or left c.node 0 - 1) in
-          let roomy : size < length out = join-room fits in
+          let roomy : size < length out = join_room fits in
           let front : take (size + 1) (set out size t) ≡ take size out ++ t ∷ [] = take_more_set out size t roomy in
           record {
             held = same ∙ was.held;
@@ -171,7 +171,7 @@ module _ {conflict : Transmission → Transmission → Bool} {parents : List ℕ
             rest =
                 drop-set-lt (size + 1) out size t (omega arith) ∙ sym (drop-drop 1 size out) ∙ ap (drop 1) was.rest ∙ drop-drop 1 size first;
             count = length-set left c.node _ ∙ was.count;
-            kept = omega (arith, was.kept, sum_by-set (λ x. x) left c.node (get_or left c.node 0 - 1) 0 others.0.within, join-slots);
+            kept = omega (arith, was.kept, sum_by-set (λ x. x) left c.node (get_or left c.node 0 - 1) 0 others.0.within, join_slots);
           }
 
   -- the queue is empty
@@ -185,8 +185,8 @@ module _ {conflict : Transmission → Transmission → Bool} {parents : List ℕ
     sized : size ≡ length goal.sent
     sized = sym (ap (λ f. length f.sent) (sym done) ∙ length-take-le size out (omega (arith, was.room, was.long)))
 
-    pub join-end : StepFilled goal first start out left size
-    join-end = record {
+    pub join_end : StepFilled goal first start out left size
+    join_end = record {
       sized = sized;
       written =
           sym (take-append-drop size out) ∙ ap (λ rest. take size out ++ rest) was.rest
@@ -221,7 +221,7 @@ join_start conflict routes k n waiting places out left same most sized held few 
           (λ i h.
           let below : i < n = omega (arith, length-range_with_len 0 n) in
           rw (get_or-range_with_len 0 n i 0 below) (able_start conflict routes.parents routes.depths left n (0 + i) (omega arith))))));
-      leads = ap (λ cs. join_all conflict routes.parents cs (record { sent = []; left = left })) (sym (ranked-shuffled deeper deeper_order _ _ holds));
+      leads = ap (λ cs. join_all conflict routes.parents cs (record { sent = []; left = left })) (sym (ranked_shuffled deeper deeper_order _ _ holds));
       long = refl;
       room = omega arith;
       rest = refl;

@@ -76,8 +76,8 @@ module _ (left : List ℕ) (n : ℕ) (depth : ℕ → ℕ) where
         (λ (free : (eqb (get_or parents c 0) t.node && ltb 0 (get_or left c 0)) ≡ false). free)
         (cases_Bool (eqb (get_or parents c 0) t.node && ltb 0 (get_or left c 0))))))
 
-    pub some-ready : Rooted → 0 < sum left → (v : ℕ) × (v < n) × (is_ready parents left n v ≡ true)
-    some-ready rooted h =
+    pub some_ready : Rooted → 0 < sum left → (v : ℕ) × (v < n) × (is_ready parents left n v ≡ true)
+    some_ready rooted h =
         let one = some_place left h in
         let best = top n (omega arith) one.0 (rooted one.0 one.1).0 one.1 in
         (best.node, best.within, top_ready rooted best)

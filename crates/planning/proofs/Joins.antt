@@ -134,10 +134,10 @@ module _ (conflict : Transmission → Transmission → Bool) where
           (λ (not : is_free conflict f.sent (to_parent parents c.node) ≡ false). rw not was)
           (cases_Bool (is_free conflict f.sent (to_parent parents c.node)))
 
-      pub all-joined : (cs : List Candidate) (f : Filling) → AllByRecursion (λ c. Ready parents start n c.node) cs
+      pub all_joined : (cs : List Candidate) (f : Filling) → AllByRecursion (λ c. Ready parents start n c.node) cs
           → Filled parents start n f → Filled parents start n (join_all conflict parents cs f)
-      all-joined [] f each was = was
-      all-joined (c ∷ cs) f each was = all-joined cs (join conflict parents c f) each.1 (joins-or-not c f each.0 was)
+      all_joined [] f each was = was
+      all_joined (c ∷ cs) f each was = all_joined cs (join conflict parents c f) each.1 (joins-or-not c f each.0 was)
 
   -- a step only grows
   sent_grows : (parents : List ℕ) (c : Candidate) (f : Filling) → length f.sent ≤ length (join conflict parents c f).sent

@@ -4,10 +4,10 @@ use Rattle.interference.specs.declared.transmission.Transmission.{Transmission}
 use Rattle.planning.specs.Always.{PlanApproved, Shared}
 use Rattle.plan.specs.Approval.{approval_fault, comes_late, conflicts_at, conflicts_with, is_early, is_stray, is_uneven, step_fault}
 use Rattle.plan.specs.Drafts.{bad_shape, step_of, transmission_at}
-use Rattle.plan.proofs.Faulty.{step-sound}
+use Rattle.plan.proofs.Faulty.{step_sound}
 use Rattle.planning.proofs.Misses.{no_first, none_below}
-use Rattle.planning.proofs.Planned.{Planned, Sender, planned_none, sizes_add, steps_few, steps-planned, steps_some}
-use Rattle.planning.proofs.Sound.{depth_of, slot_node, slots_rooted, slots-some, slots-sum, tree_count}
+use Rattle.planning.proofs.Planned.{Planned, Sender, planned_none, sizes_add, steps_few, steps_planned, steps_some}
+use Rattle.planning.proofs.Sound.{depth_of, slot_node, slots_rooted, slots_some, slots_sum, tree_count}
 use Rattle.planner.specs.Planner.{flat, plan_steps, sizes, steps_from}
 use Rattle.routing.specs.declared.link.TreeLink.{TreeLink}
 use Rattle.routing.specs.Tree.{parent_table, routes_of, slot_table, tree_fault}
@@ -56,7 +56,7 @@ module _ (n : ℕ) (conflict : Transmission → Transmission → Bool) (parents 
   steps_sound : ((v : ℕ) → 0 < get_or slots v 0 → 0 < v)
       → None ≡ step_fault n conflict parents slots (flat steps) (step_of (sizes steps))
   steps_sound away =
-      step-sound n conflict parents slots (flat steps) (step_of (sizes steps))
+      step_sound n conflict parents slots (flat steps) (step_of (sizes steps))
       (sym (no_first _ (length (flat steps)) (no_stray away)))
       (sym (no_first _ (length (flat steps)) no_conflict))
       (sym (no_first _ n no_uneven))
@@ -71,7 +71,7 @@ module _ (n : ℕ) (conflict : Transmission → Transmission → Bool) (ls : Lis
   drafted : (steps : List (List Transmission)) → 1 ≤ length steps → length steps ≤ 256
       → Planned conflict (parent_table ls) n (slot_table ls) steps → approval_fault n conflict ls (flat steps) (sizes steps) ≡ None
   drafted steps some long planned =
-      let all = slots-sum n ls sound few in
+      let all = slots_sum n ls sound few in
       let counts : length (sizes steps) ≡ length steps = length-map steps length in
       let shape =
       good_shape (flat steps) (sizes steps) (omega arith) (omega arith) (omega (arith, planned.whole)) (sizes_add steps) in
@@ -99,11 +99,11 @@ module _ (n : ℕ) (conflict : Transmission → Transmission → Bool) (ls : Lis
       (planned_none conflict (parent_table ls) n (slot_table ls) ([] ∷ []) refl (no_slots one))))
       (λ (ne : n ≡ 1 → ⊥).
       let count = tree_count n ls sound in
-      let some = slots-some n ls sound few (omega arith) in
-      let all = slots-sum n ls sound few in
+      let some = slots_some n ls sound few (omega arith) in
+      let all = slots_sum n ls sound few in
       rw (several ne)
       (drafted (steps_from conflict n (routes_of ls) 256 (slot_table ls))
       (steps_some conflict n (routes_of ls) 256 (slot_table ls) (omega arith) some)
       (steps_few conflict n (routes_of ls) 256 (slot_table ls))
-      (steps-planned conflict n (routes_of ls) shared (depth_of ls) 256 (slot_table ls) (slots_rooted n ls sound) all)))
+      (steps_planned conflict n (routes_of ls) shared (depth_of ls) 256 (slot_table ls) (slots_rooted n ls sound) all)))
       (cases_eq n 1)

@@ -184,16 +184,16 @@ module _ (conflict : Transmission → Transmission → Bool) (n : ℕ) (routes :
   steps_some (suc most) left h some = rw steps_more (omega arith)
 
   module _ (shared : Shared conflict) (depth : ℕ → ℕ) where
-    pub steps-planned : (most : ℕ) (left : List ℕ) → Rooted left n depth routes.parents → sum left ≤ most
+    pub steps_planned : (most : ℕ) (left : List ℕ) → Rooted left n depth routes.parents → sum left ≤ most
         → Planned conflict routes.parents n left (steps_from conflict n routes most left)
-    steps-planned zero left rooted h = rw steps_none (planned_none conflict routes.parents n left [] refl (omega arith))
-    steps-planned (suc most) left rooted h =
+    steps_planned zero left rooted h = rw steps_none (planned_none conflict routes.parents n left [] refl (omega arith))
+    steps_planned (suc most) left rooted h =
         ⊎_elim
         (λ (some : 0 < sum left).
         let step = step_filled conflict n routes left shared in
         let used = step_some conflict n routes left depth rooted some in
         let rest =
-        steps-planned most (step_from conflict n routes left).left
+        steps_planned most (step_from conflict n routes left).left
         (λ c has. rooted c (omega (arith, step.slots c))) (omega (arith, step.whole)) in
         rw steps_more (planned-more conflict routes.parents n left (step_from conflict n routes left) _ step rest))
         (λ (no : sum left ≤ 0).

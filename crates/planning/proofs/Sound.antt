@@ -159,15 +159,15 @@ module _ (n : ℕ) (ls : List TreeLink) (sound : tree_fault n ls ≡ None) where
       (on.0, hops_parent (parent_table ls) (length ls) c (let pos = on.1 in omega arith) on.2)
 
   module _ (few : n ≤ 64) where
-    pub slots-sum : sum (slot_table ls) ≤ 256
-    slots-sum =
+    pub slots_sum : sum (slot_table ls) ≤ 256
+    slots_sum =
         let long : length (slot_table ls) ≡ 64 =
         length_entered (λ l. l.slots) ls (replicate 64 0) ∙ length-replicate {A = ℕ} 64 0 in
         let bound = sum_by_le (λ x. x) 4 (slot_table ls) (slots_few ls (all_index n ls few in_range)) in
         omega arith
 
-    pub slots-some : 2 ≤ n → 0 < sum (slot_table ls)
-    slots-some two =
+    pub slots_some : 2 ≤ n → 0 < sum (slot_table ls)
+    slots_some two =
         let long : length (replicate {A = ℕ} 64 0) ≡ 64 = length-replicate {A = ℕ} 64 0 in
         entered_some (λ l. l.slots) ls (replicate 64 0) (omega (arith, tree_count))
         (All-weaker (λ l. OnTree l.child) (λ l. l.child < length (replicate {A = ℕ} 64 0))

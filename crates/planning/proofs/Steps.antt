@@ -2,10 +2,10 @@
 use Rattle.std.proofs.Common.{◌≡◌, ℕ, ◌<◌, ◌≤◌, Bool, true, cond, List, [], ◌∷◌, length, get_or, sum, filter, ap, ◌∙◌, arith}
 use Rattle.interference.specs.declared.transmission.Transmission.{Transmission}
 use Rattle.planning.specs.Always.{Shared}
-use Rattle.planning.proofs.Joins.{Filled, Ready, all-joined, first_joins, nothing_joined}
+use Rattle.planning.proofs.Joins.{Filled, Ready, all_joined, first_joins, nothing_joined}
 use Rattle.planner.specs.declared.candidate.Candidate.{Candidate}
 use Rattle.planner.specs.Planner.{candidate_of, candidates, deeper, is_ready, step_from}
-use Rattle.planning.proofs.Deepest.{Rooted, some-ready}
+use Rattle.planning.proofs.Deepest.{Rooted, some_ready}
 use Rattle.queue.specs.Ranked.{ranked}
 use Rattle.queue.proofs.Ranked.{length-ranked, shuffled_ranked}
 use Rattle.routing.specs.declared.routes.Routes.{Routes}
@@ -55,7 +55,7 @@ module _ (routes : Routes) (left : List ℕ) (n : ℕ) where
 module _ (conflict : Transmission → Transmission → Bool) (n : ℕ) (routes : Routes) (left : List ℕ) where
   pub step_filled : (shared : Shared conflict) → Filled conflict routes.parents left n (step_from conflict n routes left)
   step_filled shared =
-      all-joined conflict shared routes.parents left n (ranked deeper (candidates routes left n))
+      all_joined conflict shared routes.parents left n (ranked deeper (candidates routes left n))
       (record { sent = []; left = left })
       (all_shuffled (λ (c : Candidate). Ready routes.parents left n c.node) _ _
       (shuffled_ranked deeper (candidates routes left n)) (candidates_ready routes left n))
@@ -64,7 +64,7 @@ module _ (conflict : Transmission → Transmission → Bool) (n : ℕ) (routes :
   pub step_some : (depth : ℕ → ℕ) → Rooted left n depth routes.parents → 0 < sum left
       → 1 ≤ length (step_from conflict n routes left).sent
   step_some depth rooted h =
-      let one = some-ready left n depth routes.parents rooted h in
+      let one = some_ready left n depth routes.parents rooted h in
       let some = some_candidate routes left n one.0 one.1 one.2 in
       first_joins conflict routes.parents left (ranked deeper (candidates routes left n))
       (omega (arith, length-ranked deeper (candidates routes left n)))

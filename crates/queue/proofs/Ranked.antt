@@ -95,11 +95,11 @@ module _ {X : Type 0} (before : X → X → Bool) where
     ranked-exchanged [] i j f g = refl
     ranked-exchanged (x ∷ xs) i j f g = ranked-set-both (x ∷ xs) i j x f g
 
-    pub ranked-shuffled : (xs ys : List X) → IsPermutation xs ys → ranked before xs ≡ ranked before ys
-    ranked-shuffled xs ys s = IsPermutation-keeps xs (λ l. ranked before xs ≡ ranked before l) refl (λ l i j f g e. e ∙ sym (ranked-exchanged l i j f g)) ys s
+    pub ranked_shuffled : (xs ys : List X) → IsPermutation xs ys → ranked before xs ≡ ranked before ys
+    ranked_shuffled xs ys s = IsPermutation-keeps xs (λ l. ranked before xs ≡ ranked before l) refl (λ l i j f g e. e ∙ sym (ranked-exchanged l i j f g)) ys s
 
-    pub pushed-ranked : (x : X) (n : ℕ) (xs ys : List X) → Pushed before x n xs ys → ranked before (take (n + 1) ys) ≡ placed before x (ranked before (take n xs))
-    pushed-ranked x n xs ys p = sym (ranked-shuffled _ _ p.holds)
+    pub pushed_ranked : (x : X) (n : ℕ) (xs ys : List X) → Pushed before x n xs ys → ranked before (take (n + 1) ys) ≡ placed before x (ranked before (take n xs))
+    pushed_ranked x n xs ys p = sym (ranked_shuffled _ _ p.holds)
 
     -- what ranks first stands first
     pub placed_first : (x : X) (ys : List X) → First before x ys → placed before x ys ≡ x ∷ ys
@@ -109,10 +109,10 @@ module _ {X : Type 0} (before : X → X → Bool) where
         (λ (t : before x y ≡ false). let e : x ≡ y = o.total x y t f.0 in placed_after x y ys t ∙ ap (λ l. y ∷ l) (placed_first x ys f.1) ∙ rw e)
         (cases_Bool (before x y))
 
-    pub popped-ranked : (x : X) (n : ℕ) (xs ys : List X) → Heap before (take n xs) → Popped before x n xs ys → ranked before (take n xs) ≡ x ∷ ranked before (take (n - 1) ys)
-    popped-ranked x n xs ys h p =
+    pub popped_ranked : (x : X) (n : ℕ) (xs ys : List X) → Heap before (take n xs) → Popped before x n xs ys → ranked before (take n xs) ≡ x ∷ ranked before (take (n - 1) ys)
+    popped_ranked x n xs ys h p =
         let left = (all_shuffled (λ y. before y x ≡ false) _ _ p.holds (p.first h)).1 in
-        ranked-shuffled _ _ p.holds ∙ placed_first x _ (all_shuffled (λ y. before y x ≡ false) _ _ (shuffled_ranked (take (n - 1) ys)) left)
+        ranked_shuffled _ _ p.holds ∙ placed_first x _ (all_shuffled (λ y. before y x ≡ false) _ _ (shuffled_ranked (take (n - 1) ys)) left)
 
     -- ---- each element ranks first among those from it on
 
@@ -125,6 +125,6 @@ module _ {X : Type 0} (before : X → X → Bool) where
         (λ (t : before x y ≡ false). rw t (all_shuffled (λ z. before z y ≡ false) _ _ (shuffled_placed x ys) (t, h.0), placed-in-order x ys h.1))
         (cases_Bool (before x y))
 
-    pub ranked-in-order : (xs : List X) → InOrder before (ranked before xs)
-    ranked-in-order [] = tt
-    ranked-in-order (x ∷ xs) = placed-in-order x (ranked before xs) (ranked-in-order xs)
+    pub ranked_in_order : (xs : List X) → InOrder before (ranked before xs)
+    ranked_in_order [] = tt
+    ranked_in_order (x ∷ xs) = placed-in-order x (ranked before xs) (ranked_in_order xs)

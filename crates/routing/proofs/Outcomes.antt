@@ -20,8 +20,8 @@ module _ (n : ℕ) (ls : List TreeLink) (sized : length ls + 1 ≡ n) where
   bad_fault k found = rw (eq-eqb (length ls + 1) n sized, ← found) refl
 
   module _ (ranged : None ≡ first_below (λ j. bad_link n (link_at ls j)) (length ls)) where
-    pub repeated-fault : (k : ℕ) → Some k ≡ first_below (repeated_at ls) (length ls) → tree_fault n ls ≡ Some (Repeated k)
-    repeated-fault k found = rw (eq-eqb (length ls + 1) n sized, ← ranged, ← found) refl
+    pub repeated_fault : (k : ℕ) → Some k ≡ first_below (repeated_at ls) (length ls) → tree_fault n ls ≡ Some (Repeated k)
+    repeated_fault k found = rw (eq-eqb (length ls + 1) n sized, ← ranged, ← found) refl
 
     pub indexes : n ≤ 64 → AllByRecursion Indexes ls
     indexes few = all_index n ls few (sym ranged)
@@ -34,13 +34,13 @@ module _ (n : ℕ) (ls : List TreeLink) (sized : length ls + 1 ≡ n) where
     walkable few parents is = (omega arith, (rw is (parents_index ls (indexes few)), children few))
 
     module _ (distinct : None ≡ first_below (repeated_at ls) (length ls)) (parents : List ℕ) (is : parents ≡ parent_table ls) where
-      pub unrooted-fault : (k : ℕ) → Some k ≡ lost parents ls → tree_fault n ls ≡ Some (Unrooted k)
-      unrooted-fault k found =
+      pub unrooted_fault : (k : ℕ) → Some k ≡ lost parents ls → tree_fault n ls ≡ Some (Unrooted k)
+      unrooted_fault k found =
           let along : lost (parent_table ls) ls ≡ Some k = ap (λ ps. lost ps ls) (sym is) ∙ sym found in
           rw (eq-eqb (length ls + 1) n sized, ← ranged, ← distinct, along) refl
 
-      pub no-fault : None ≡ lost parents ls → tree_fault n ls ≡ None
-      no-fault found =
+      pub no_fault : None ≡ lost parents ls → tree_fault n ls ≡ None
+      no_fault found =
           let along : lost (parent_table ls) ls ≡ None = ap (λ ps. lost ps ls) (sym is) ∙ sym found in
           rw (eq-eqb (length ls + 1) n sized, ← ranged, ← distinct, along) refl
 

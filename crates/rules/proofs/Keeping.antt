@@ -18,7 +18,7 @@ use Rattle.rules.proofs.Steps.{row_of_is, Ways, by_ways}
 use Rattle.rules.proofs.States.{opened_inv, waited}
 use Rattle.rules.proofs.RowsOf.{waiting_since, pend, waiting_in}
 use Rattle.rules.proofs.Stories.{Pair, Timely, SpacedBy, Known, Unknown, Story}
-use Rattle.rules.proofs.Links.{Linked, link-step}
+use Rattle.rules.proofs.Links.{Linked, link_step}
 
 -- Places in the lists
 
@@ -238,7 +238,7 @@ pub linked_run : (first : ℕ) (part : ℕ → List Transmission) (conflict : Tr
 linked_run first part conflict [] past v k = subst (λ z. Linked first part conflict z v) (sym (append-nil past)) k
 linked_run first part conflict (c ∷ cs) past v k =
     subst (λ z. Linked first part conflict z (last_view (step c v).1 cs)) (append_assoc past (moment v c ∷ []) (history (step c v).1 cs))
-    (linked_run first part conflict cs (past ++ (moment v c ∷ [])) (step c v).1 (link-step first part conflict past v k c))
+    (linked_run first part conflict cs (past ++ (moment v c ∷ [])) (step c v).1 (link_step first part conflict past v k c))
 
 -- no call changes the plan
 same_plan : (v : View) (c : Call) → ((step c v).1.length ≡ v.length) × ((step c v).1.distance ≡ v.distance)

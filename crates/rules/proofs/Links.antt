@@ -464,8 +464,8 @@ module _ (first : ℕ) (part : ℕ → List Transmission) (conflict : Transmissi
               (k.story n))
 
     -- every call
-    pub link-step : (c : Call) → Linked (past ++ (moment v c ∷ [])) (step c v).1
-    link-step c =
+    pub link_step : (c : Call) → Linked (past ++ (moment v c ∷ [])) (step c v).1
+    link_step c =
         by_ways v (λ c a w. Inv w → Linked (past ++ (record { before = v; call = c; answer = a; after = w } ∷ [])) w)
         (record {
           refuses = λ c r i. link-refused c r;

@@ -11,4 +11,4 @@ pub returns : goal.returns
 returns g c =
     let took = c.take_first.ensures in
     let popped = ends.popped _ g.met.T.Rank.order c.args.places.now c.take_first.new.places c.take_first.result c.args.len (c.args.len - 0) (omega arith) (omega arith) (omega arith) c.take_first.auto.places took.holds took.first took.heaped in
-    record { popped = popped; ranked = λ heap. laws.popped-ranked _ g.met.T.Rank.order _ _ _ _ heap popped }
+    record { popped = popped; ranked = λ heap. laws.popped_ranked _ g.met.T.Rank.order _ _ _ _ heap popped }

@@ -11,4 +11,4 @@ pub returns : goal.returns
 returns g c =
     let sift = c.sift_up.ensures in
     let pushed = ends.pushed _ c.args.places.now c.args.x c.args.len (c.args.len + 1 - 0) (omega arith) (omega arith) c.sift_up.new.places sift.shuffled sift.heaped in
-    record { pushed = pushed; ranked = laws.pushed-ranked _ g.met.T.Rank.order _ _ _ _ pushed }
+    record { pushed = pushed; ranked = laws.pushed_ranked _ g.met.T.Rank.order _ _ _ _ pushed }

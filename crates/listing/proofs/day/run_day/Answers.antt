@@ -4,7 +4,7 @@ use Rattle.listing.specs.declared.stop.StopFault.TheVariants.{Unreadable}
 use Rattle.listing.specs.Listings.{day_story}
 use Rattle.listing.specs.Scripts.{script_of}
 use Rattle.listing.specs.Stops.{stopped}
-use Rattle.listing.proofs.Records.{day_broken, day-on, day_over, day-stopped, ends_here}
+use Rattle.listing.proofs.Records.{day_broken, day_on, day_over, day_stopped, ends_here}
 use Rattle.listing.proofs.day.run_day.Goals as goal
 
 pub returns-in-Err : goal.returns-in-Err
@@ -22,7 +22,7 @@ returns-in-Err-play c =
     let before = day_story (view c.args.engine.now) (script_of c.args.total c.args.bytes.now) in
     ends_here before c.args.out.now c.args.at c.play.new.out c.in-Err-play.halt.length
     (stopped c.in-Err-play.halt.fault (c.args.total - length c.loop-rest.rest.now)) c.stopped-in-Err-play.result c.stopped-in-Err-play.ensures
-    (day-stopped before c.args.total c.args.out.now c.args.at (view c.loop-rest.engine) c.loop-rest.rest.now c.loop-rest.out
+    (day_stopped before c.args.total c.args.out.now c.args.at (view c.loop-rest.engine) c.loop-rest.rest.now c.loop-rest.out
     c.loop-rest.place c.loop-rest.invariant.2 c.in-Ok.pair.0 c.in-Ok.pair.1.now some c.in-Ok.ensures.answer
     (view c.play.new.engine) c.play.new.out c.in-Err-play.halt c.in-Err-play.ensures)
 
@@ -33,7 +33,7 @@ loop-rest-preserved c =
     let less : length c.in-Ok.pair.1.now < length c.loop-rest.rest.now = c.in-Ok.ensures.shorter in (
       omega arith,
       omega arith,
-      day-on before c.args.total c.args.out.now c.args.at (view c.loop-rest.engine) c.loop-rest.rest.now c.loop-rest.out
+      day_on before c.args.total c.args.out.now c.args.at (view c.loop-rest.engine) c.loop-rest.rest.now c.loop-rest.out
           c.loop-rest.place c.loop-rest.invariant.2 c.in-Ok.pair.0 c.in-Ok.pair.1.now some c.in-Ok.ensures.answer
           (view c.play.new.engine) c.play.new.out c.in-Ok-play.end c.in-Ok-play.ensures,
     )

@@ -11,7 +11,7 @@ loop-left-preserved c =
 
 pub returns-in_err-place : goal.returns-in_err-place
 returns-in_err-place c =
-    let p = err_from_is_err_and c.from-residual.result c.from-residual.ensures.1 in
+    let p = err_from_is_err_and c.from_residual.result c.from_residual.ensures.1 in
     rw (p.1, p.2)
     (stopped_run c.loop-left.invariant (view c.slot-line.new.engine) c.slot-line.result c.tell.new.out c.in_err-place.field-0.0 (omega arith)
     c.slot-line.ensures c.in_err-place.ensures)

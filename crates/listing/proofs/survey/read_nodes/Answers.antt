@@ -1,5 +1,5 @@
 use Rattle.std.proofs.Common.{◌≡◌, ◌<◌, length, rules}
-use Rattle.listing.proofs.Surveys.{first_broken, first-nodes, first-other, no_first_record}
+use Rattle.listing.proofs.Surveys.{first_broken, first_nodes, first_other, no_first_record}
 use Rattle.listing.proofs.survey.read_nodes.Goals as goal
 
 pub returns-then-is_empty : goal.returns-then-is_empty
@@ -13,11 +13,11 @@ returns-in-Err c =
 pub returns-in-Nodes : goal.returns-in-Nodes
 returns-in-Nodes c =
     let some : 0 < length c.args.file.now = search rules in (
-      first-nodes c.args.file.now c.in-Ok.pair.0 c.in-Ok.pair.1.now some c.in-Ok.ensures.answer c.in-Nodes.count c.in-Nodes.is,
+      first_nodes c.args.file.now c.in-Ok.pair.0 c.in-Ok.pair.1.now some c.in-Ok.ensures.answer c.in-Nodes.count c.in-Nodes.is,
       c.in-Ok.ensures.shorter,
     )
 
 pub returns-in_default : goal.returns-in_default
 returns-in_default c =
     let some : 0 < length c.args.file.now = search rules in
-    first-other c.args.file.now c.in-Ok.pair.0 c.in-Ok.pair.1.now some c.in-Ok.ensures.answer c.in_default.not-Nodes
+    first_other c.args.file.now c.in-Ok.pair.0 c.in-Ok.pair.1.now some c.in-Ok.ensures.answer c.in_default.not-Nodes

@@ -19,7 +19,7 @@ returns-in-Some-first_conflict g c =
     let parents = c.args.routes.now.parents in
     let slots = c.args.routes.now.slots in
     let ts = c.args.transmissions.now in
-    faulty.conflict-fault c.nodes-n.result conflict parents slots ts (λ i. get_or c.args.steps.now i 0)
+    faulty.conflict_fault c.nodes-n.result conflict parents slots ts (λ i. get_or c.args.steps.now i 0)
     c.in_default.ensures c.in-Some-first_conflict.at c.in-Some-first_conflict.ensures
     ∙ ap (λ n. step_fault n conflict parents slots ts (λ i. get_or c.args.steps.now i 0)) c.nodes-n.ensures
 
@@ -29,7 +29,7 @@ returns-in-Some-first_uneven g c =
     let parents = c.args.routes.now.parents in
     let slots = c.args.routes.now.slots in
     let ts = c.args.transmissions.now in
-    faulty.slot-fault c.nodes-n.result conflict parents slots ts (λ i. get_or c.args.steps.now i 0)
+    faulty.slot_fault c.nodes-n.result conflict parents slots ts (λ i. get_or c.args.steps.now i 0)
     c.in_default.ensures c.in_default-first_conflict.ensures c.in-Some-first_uneven.node c.in-Some-first_uneven.ensures
     ∙ ap (λ n. step_fault n conflict parents slots ts (λ i. get_or c.args.steps.now i 0)) c.nodes-n.ensures
 
@@ -39,7 +39,7 @@ returns-in-Some-first_early g c =
     let parents = c.args.routes.now.parents in
     let slots = c.args.routes.now.slots in
     let ts = c.args.transmissions.now in
-    faulty.order-fault c.nodes-n.result conflict parents slots ts (λ i. get_or c.args.steps.now i 0)
+    faulty.order_fault c.nodes-n.result conflict parents slots ts (λ i. get_or c.args.steps.now i 0)
     c.in_default.ensures c.in_default-first_conflict.ensures c.in_default-first_uneven.ensures c.in-Some-first_early.at
     c.in-Some-first_early.ensures
     ∙ ap (λ n. step_fault n conflict parents slots ts (λ i. get_or c.args.steps.now i 0)) c.nodes-n.ensures
@@ -50,6 +50,6 @@ returns-in-None g c =
     let parents = c.args.routes.now.parents in
     let slots = c.args.routes.now.slots in
     let ts = c.args.transmissions.now in
-    faulty.step-sound c.nodes-n.result conflict parents slots ts (λ i. get_or c.args.steps.now i 0)
+    faulty.step_sound c.nodes-n.result conflict parents slots ts (λ i. get_or c.args.steps.now i 0)
     c.in_default.ensures c.in_default-first_conflict.ensures c.in_default-first_uneven.ensures c.in-None.ensures
     ∙ ap (λ n. step_fault n conflict parents slots ts (λ i. get_or c.args.steps.now i 0)) c.nodes-n.ensures

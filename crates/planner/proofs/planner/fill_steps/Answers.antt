@@ -1,5 +1,5 @@
 use Rattle.std.proofs.Common.{inl, inr, arith}
-use Rattle.planner.proofs.Plans.{plan-end, plan-more, plan_room, plan_start}
+use Rattle.planner.proofs.Plans.{plan_end, plan_more, plan_room, plan_start}
 use Rattle.planner.proofs.planner.fill_steps.Goals as goal
 
 pub loop-remaining-init : goal.loop-remaining-init
@@ -13,13 +13,13 @@ fill_step-size-requires g c =
 
 pub loop-remaining-preserved : goal.loop-remaining-preserved
 loop-remaining-preserved g c =
-    plan-more c.loop-remaining.invariant c.requires.0 c.requires.1.0 c.loop-remaining-test.true c.if-steps-lt256.true _ _ _
+    plan_more c.loop-remaining.invariant c.requires.0 c.requires.1.0 c.loop-remaining-test.true c.if-steps-lt256.true _ _ _
     c.fill_step-size.ensures c.fill_step-size.auto.left
 
 pub returns-else-steps-lt256 : goal.returns-else-steps-lt256
 returns-else-steps-lt256 g c =
-    plan-end c.loop-remaining.invariant c.requires.0 c.requires.1.0 (inr c.if-steps-lt256.false)
+    plan_end c.loop-remaining.invariant c.requires.0 c.requires.1.0 (inr c.if-steps-lt256.false)
 
 pub returns-after-loop-remaining : goal.returns-after-loop-remaining
 returns-after-loop-remaining g c =
-    plan-end c.loop-remaining.invariant c.requires.0 c.requires.1.0 (inl c.loop-remaining-test.false)
+    plan_end c.loop-remaining.invariant c.requires.0 c.requires.1.0 (inl c.loop-remaining-test.false)

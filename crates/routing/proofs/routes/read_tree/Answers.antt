@@ -23,7 +23,7 @@ pub returns-in-Some-first_unrooted : goal.returns-in-Some-first_unrooted
 returns-in-Some-first_unrooted g c =
     let ls = c.args.tree.now in
     ap (λ n. tree_fault n ls) (sym c.nodes-n.ensures)
-    ∙ outcomes.unrooted-fault c.nodes-n.result ls c.if-tree-n.false c.in_default.ensures
+    ∙ outcomes.unrooted_fault c.nodes-n.result ls c.if-tree-n.false c.in_default.ensures
     c.in_default-first_repeated.ensures _ c.parent_table-parents.ensures c.in-Some-first_unrooted.at
     c.in-Some-first_unrooted.ensures
 
@@ -41,7 +41,7 @@ pub returns : goal.returns
 returns g c =
     let ls = c.args.tree.now in (
       ap (λ n. tree_fault n ls) (sym c.nodes-n.ensures)
-          ∙ outcomes.no-fault c.nodes-n.result ls c.if-tree-n.false c.in_default.ensures
+          ∙ outcomes.no_fault c.nodes-n.result ls c.if-tree-n.false c.in_default.ensures
           c.in_default-first_repeated.ensures _ c.parent_table-parents.ensures c.in_default-first_unrooted.ensures,
       outcomes.routes_are ls _ _ _ c.parent_table-parents.ensures c.slot_table.ensures c.depth_table.ensures,
     )

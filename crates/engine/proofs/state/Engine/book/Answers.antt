@@ -5,7 +5,7 @@ use Rattle.engine.specs.Engines.{view}
 use Rattle.engine.specs.Tables.{Fair, Kept}
 use Rattle.engine.specs.Views.{rows_of}
 use Rattle.engine.proofs.Bookable.{book_done, book_refused, number_left, room_left, stands_booked}
-use Rattle.engine.proofs.Means.{book-judged}
+use Rattle.engine.proofs.Means.{book_judged}
 use Rattle.engine.proofs.Safe.{below_rows, fair_rows, kept_rows}
 use Rattle.engine.proofs.Settles.{call_good}
 use Rattle.engine.proofs.Waitings.{same_front}
@@ -47,7 +47,14 @@ invariant_of-self c =
     ap (λ rows. admit_refusal e.length e.distance e.next rows x) (sym (same_front e.table.rows e.table.count)) ∙ admitted.0 in
     let entered = c.enter.ensures ∙ ap (λ r. (view e).rows ++ r ∷ []) admitted.1 in
     let done = book_done (view e) c.args.priority c.args.period c.args.deadline e.next (rows_of c.enter.new.self) refl none entered in
-    (e.short, (e.spread, (e.soon, (omega arith, (e.idle, (call_good (view e) _ e.good (Book c.args.priority c.args.period c.args.deadline) (ap (λ p. p.1) done), tt))))))
+    record {
+      short = e.short;
+      spread = e.spread;
+      soon = e.soon;
+      numbered = omega arith;
+      idle = e.idle;
+      good = call_good (view e) _ e.good (Book c.args.priority c.args.period c.args.deadline) (ap (λ p. p.1) done);
+    }
 
 pub returns : goal.returns
 returns c =
@@ -62,7 +69,7 @@ returns c =
     (ap (λ r. r.number) admitted.1) none entered in
     record {
       outcome = done;
-      judged = book-judged (view e) e.good c.args.priority c.args.period c.args.deadline (Ok c.in_ok-row.row.number) _ done;
+      judged = book_judged (view e) e.good c.args.priority c.args.period c.args.deadline (Ok c.in_ok-row.row.number) _ done;
       stands =
           stands_booked (view e).rows (rows_of c.enter.new.self) x c.in_ok-row.row.number (ap (λ r. r.number) admitted.1) refl
           (below_rows (view e) e.good) entered;
@@ -73,13 +80,13 @@ returns-in_err-row c =
     let e = c.args.self.now in
     let x = booked_row e.next c.args.priority c.args.period c.args.deadline in
     let f = c.in_err-row.field-0.0 in
-    let p = err_from_is_err_and c.from-residual.result c.from-residual.ensures.1 in
+    let p = err_from_is_err_and c.from_residual.result c.from_residual.ensures.1 in
     let refused : admit_refusal e.length e.distance e.next (view e).rows x ≡ Some f =
     ap (λ rows. admit_refusal e.length e.distance e.next rows x) (sym (same_front e.table.rows e.table.count)) ∙ c.in_err-row.ensures in
-    let is : booked_by c.from-residual.result ≡ Err f = ap booked_by p.1 ∙ ap Err p.2 in
+    let is : booked_by c.from_residual.result ≡ Err f = ap booked_by p.1 ∙ ap Err p.2 in
     let done = ap (λ r. (r, view e)) is ∙ book_refused (view e) c.args.priority c.args.period c.args.deadline f refused in
     record {
       outcome = done;
-      judged = book-judged (view e) e.good c.args.priority c.args.period c.args.deadline _ (view e) done;
+      judged = book_judged (view e) e.good c.args.priority c.args.period c.args.deadline _ (view e) done;
       stands = subst (StandsBooked (view e)) (sym p.1) tt;
     }

@@ -13,7 +13,14 @@ invariant_of-self c =
     let done =
     settled (view e) (unless_open (row_of c.args.number (view e).rows)) c.change.result
     (rows_of c.change.new.self) (map (close_row c.args.number) (view e).rows) c.change.ensures in
-    (e.short, (e.spread, (e.soon, (e.numbered, (e.idle, (call_good (view e) (with_rows (view e) (rows_of c.change.new.self)) e.good (Close c.args.number) (ap (λ p. p.1) done), tt))))))
+    record {
+      short = e.short;
+      spread = e.spread;
+      soon = e.soon;
+      numbered = e.numbered;
+      idle = e.idle;
+      good = call_good (view e) (with_rows (view e) (rows_of c.change.new.self)) e.good (Close c.args.number) (ap (λ p. p.1) done);
+    }
 
 pub returns : goal.returns
 returns c =

@@ -13,7 +13,14 @@ invariant_of-self c =
     let e = c.args.self.now in
     let n = c.args.booking.number in
     let done = settled (view e) (unless_booked (row_of n (view e).rows)) c.withdraw.result (rows_of c.withdraw.new.self) (filter (other_than n) (view e).rows) c.withdraw.ensures in
-    (e.short, (e.spread, (e.soon, (e.numbered, (e.idle, (call_good (view e) (with_rows (view e) (rows_of c.withdraw.new.self)) e.good (Withdraw n) (ap (λ p. p.1) done), tt))))))
+    record {
+      short = e.short;
+      spread = e.spread;
+      soon = e.soon;
+      numbered = e.numbered;
+      idle = e.idle;
+      good = call_good (view e) (with_rows (view e) (rows_of c.withdraw.new.self)) e.good (Withdraw n) (ap (λ p. p.1) done);
+    }
 
 pub returns-in-Ok : goal.returns-in-Ok
 returns-in-Ok c =

@@ -1,12 +1,9 @@
 use Rattle.std.proofs.Common.{sym, ap, ◌∙◌}
 use Rattle.engine.specs.Starts.{started_rows}
 use Rattle.engine.specs.Views.{rows_of}
-use Rattle.engine.proofs.Slots.{held_back, none_waits, quiet_rows, started_first}
+use Rattle.engine.proofs.Slots.{held_back, quiet_rows, started_first}
 use Rattle.engine.proofs.table.Table.start_any.Goals as goal
 use Rattle.rules.specs.Rows.{first_in_rank, waits}
-
-pub sweep-requires : goal.sweep-requires
-sweep-requires c = none_waits _ c.if-is_quiet.ensures
 
 pub returns-then-is_quiet : goal.returns-then-is_quiet
 returns-then-is_quiet c =

@@ -1,7 +1,7 @@
 use Rattle.std.proofs.Common.{◌≡◌, ℕ, ◌-◌, List, take, Ok, Err, sym, ap, ◌∙◌, subst, arith}
 use Rattle.interference.specs.Graph.{EdgesMeant, EdgesRefused, graph_conflict, word_edge}
 use Rattle.listing.specs.Surveys.{site_of}
-use Rattle.listing.proofs.Sites.{site-planned, site_refused, tree-refused}
+use Rattle.listing.proofs.Sites.{site_planned, site_refused, tree_refused}
 use Rattle.listing.proofs.survey.Survey.plan.Goals as goal
 use Rattle.plan.specs.Plans.{plan_of}
 use Rattle.planning.specs.Making.{Made}
@@ -14,7 +14,7 @@ whole n xs = ap (λ k. take k xs) (let e : n - 0 ≡ n = omega arith in e)
 pub returns-in_err-model : goal.returns-in_err-model
 returns-in_err-model c =
     let s = c.args.self.now in
-    let p = err_from_is_err_and c.from-residual.result c.from-residual.ensures.1 in
+    let p = err_from_is_err_and c.from_residual.result c.from_residual.ensures.1 in
     rw (p.1, p.2)
     (site_refused (site_of s) c.in_err-model.field-0.0
     (subst (λ es. EdgesRefused s.count es c.in_err-model.field-0.0) (whole s.edge_count s.edges) c.in_err-model.ensures))
@@ -24,9 +24,9 @@ returns-in_err-make_plan c =
     let s = c.args.self.now in
     let m = c.in_ok-model.model in
     let conflict = graph_conflict m.count (word_edge m.words) in
-    let p = err_from_is_err_and c.from-residual-in_err-make_plan.result c.from-residual-in_err-make_plan.ensures.1 in
+    let p = err_from_is_err_and c.from_residual-in_err-make_plan.result c.from_residual-in_err-make_plan.ensures.1 in
     rw (p.1, p.2)
-    (tree-refused (site_of s) m.count conflict
+    (tree_refused (site_of s) m.count conflict
     (subst (λ es. EdgesMeant s.count es m.count conflict) (whole s.edge_count s.edges) c.in_ok-model.ensures)
     (plan_of c.new-plan.result) (plan_of c.make_plan.new.place) c.in_err-make_plan.field-0.0
     (subst (λ ls. Made m.count conflict ls (plan_of c.new-plan.result) (plan_of c.make_plan.new.place) {U = Unit {0}} (Err c.in_err-make_plan.field-0.0))
@@ -37,7 +37,7 @@ returns c =
     let s = c.args.self.now in
     let m = c.in_ok-model.model in
     let conflict = graph_conflict m.count (word_edge m.words) in
-    site-planned (site_of s) m.count conflict
+    site_planned (site_of s) m.count conflict
     (subst (λ es. EdgesMeant s.count es m.count conflict) (whole s.edge_count s.edges) c.in_ok-model.ensures)
     (plan_of c.new-plan.result) (plan_of c.make_plan.new.place)
     (subst (λ ls. Made m.count conflict ls (plan_of c.new-plan.result) (plan_of c.make_plan.new.place) {U = Unit {0}} (Ok tt))
