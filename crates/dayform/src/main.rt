@@ -21,10 +21,10 @@ enum Form {
 fn asked_form(rt: &HostRuntime) -> anyhow::Result<Form> {
     let mut words = env::args(rt)?.skip(1);
     if let Some(word) = words.next() {
-        if word == "pack" {
+        if word.as_str() == "pack" {
             return Ok(Form::Pack);
         }
-        if word == "print" {
+        if word.as_str() == "print" {
             return Ok(Form::Print);
         }
     }
