@@ -98,8 +98,9 @@ impl Table {
         if !self.closing {
             return;
         }
+        let quiet = self.is_quiet();
         self.count = keep_rows(&mut self.rows[0..self.count], Staying::NotLeaving);
-        self.closing = !self.waiting.is_empty();
+        self.closing = !quiet;
     }
 
     /// Whether no round waits.

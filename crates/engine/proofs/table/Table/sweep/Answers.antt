@@ -1,9 +1,9 @@
-use Rattle.std.proofs.Common.{take, sym, ◌∙◌, arith}
+use Rattle.std.proofs.Common.{sym, ◌∙◌, arith}
 use Rattle.engine.specs.Views.{rows_of}
 use Rattle.engine.proofs.Changes.{kept_facts, kept_part}
 use Rattle.engine.proofs.Closings.{none_swept}
 use Rattle.engine.proofs.Slots.{none_waits}
-use Rattle.engine.proofs.Tables.{held_swept, queue_quiet, table_held, table_queued}
+use Rattle.engine.proofs.Tables.{held_swept, table_held}
 use Rattle.engine.proofs.table.Table.sweep.Goals as goal
 use Rattle.rules.specs.Rows.{staying}
 use Rattle.std.proofs.lemmas.Bool.{not-false}
@@ -19,7 +19,7 @@ invariant_of-self c =
     let was = table_held table (omega arith) in
     kept_facts c.keep_rows-self.result table.count c.keep_rows-self.new.rows _ table.rows staying (omega arith)
     c.keep_rows-self.ensures.front _ (omega arith) (held_swept _ _ was _
-    (λ off. none_waits _ (sym (not-false _ off) ∙ c.is_empty.ensures ∙ queue_quiet (take table.count table.rows) _ (table_queued table))))
+    (λ off. none_waits _ (sym (not-false _ off) ∙ c.is_quiet-quiet.ensures)))
 
 pub returns : goal.returns
 returns c =
