@@ -3,6 +3,7 @@
 //!
 //! `reader::check` may refuse; what it passes is read without a refusal by `WholeRecord::read`.
 //! `reader::next` is the two in one.
+#![tactic(auto)]
 
 pub mod reader;
 pub mod record;

@@ -1,6 +1,6 @@
 -- What shifts and masks of a word say of its bits.
 -- A word shifted to the right by n is 0 just where the word is below 2 ^ n.
-use Rattle.std.proofs.Common.{◌≡◌, ℕ, ◌+◌, ◌-◌, ◌*◌, ◌/◌, ◌%◌, ◌^◌, ◌<◌, ◌≤◌, max, Bool, true, false, cond, not, ◌||◌, eqb, leb, sym, refl, ap, ◌∙◌, ⊎_elim, div-lt_iff_lt-mul, one-mul, arith}
+use Rattle.std.proofs.Common.{◌≡◌, ℕ, ◌+◌, ◌-◌, ◌*◌, ◌/◌, ◌%◌, ◌^◌, ◌<◌, max, Bool, true, false, cond, not, ◌||◌, eqb, leb, sym, refl, ap, ◌∙◌, ⊎_elim, div-lt_iff_lt-mul, one-mul, arith}
 use native.Mathlib.Nat.{div-eq_of_lt}
 use lib.Bits.{bit_or, or_step}
 use Rattle.interference.specs.Words.{bit_of, with_bit}

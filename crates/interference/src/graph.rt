@@ -79,15 +79,15 @@ impl Interference for GraphModel {
 
     ghost conflict = { λ m a b. graph_conflict m.count (word_edge m.words) a b };
 
-    ghost least = { first_of (Prim.search rules, Prim.grind (arith, Self.row.coded.inj)) };
+    ghost least = { Prim.search rules };
 
-    ghost most = { first_of (Prim.search rules, Prim.grind (arith, Self.row.coded.inj)) };
+    ghost most = { Prim.search rules };
 
-    ghost symmetric = { first_of (Prim.search rules, Prim.grind (arith, Self.row.coded.inj)) };
+    ghost symmetric = { Prim.search rules };
 
-    ghost shared = { first_of (Prim.search rules, Prim.grind (arith, Self.row.coded.inj)) };
+    ghost shared = { Prim.search rules };
 
-    ghost improper = { first_of (Prim.search rules, Prim.grind (arith, Self.row.coded.inj)) };
+    ghost improper = { Prim.search rules };
 
     fn nodes(&self) -> u8 {
         self.count

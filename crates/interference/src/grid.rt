@@ -60,15 +60,15 @@ impl Interference for GridModel {
 
     ghost conflict = { λ m a b. grid_conflict m.count m.side m.positions a b };
 
-    ghost least = { first_of (Prim.search rules, Prim.grind (arith, Self.row.coded.inj)) };
+    ghost least = { Prim.search rules };
 
-    ghost most = { first_of (Prim.search rules, Prim.grind (arith, Self.row.coded.inj)) };
+    ghost most = { Prim.search rules };
 
     ghost symmetric = { λ p a b. grid_swap p.count p.side p.positions a b };
 
-    ghost shared = { first_of (Prim.search rules, Prim.grind (arith, Self.row.coded.inj)) };
+    ghost shared = { Prim.search rules };
 
-    ghost improper = { first_of (Prim.search rules, Prim.grind (arith, Self.row.coded.inj)) };
+    ghost improper = { Prim.search rules };
 
     fn nodes(&self) -> u8 {
         self.count

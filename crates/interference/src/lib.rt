@@ -1,4 +1,5 @@
 //! Interference models: how many nodes a site has, and which transmissions conflict.
+#![tactic(auto)]
 
 pub mod bits;
 pub mod fault;

@@ -1,4 +1,6 @@
 // A priority queue over a slice: what ranks first comes out first.
+#![tactic(auto)]
+
 ghost use Rattle.std.specs.Prelude.{◌≡◌, ◌+◌, ◌-◌, ◌*◌, ◌<◌, ◌≤◌, Bool, ◌⊎◌, ◌∷◌, length, take, IfSome, MatchOption, MatchResult, OnOk, ◌==◌, slice_index_or};
 ghost use Rattle.std.specs.List.Sorted.{IsPermutation};
 ghost use Rattle.queue.specs.Heap.{Heap, First, Best, Rising, Sinking, Pushed, Popped};

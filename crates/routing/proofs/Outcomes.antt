@@ -1,6 +1,6 @@
 -- The one outcome of a tree, from what the searches find. `held` is the number of nodes as the code has it.
 use Rattle.std.proofs.Common.{◌≡◌, ℕ, ◌+◌, ◌<◌, ◌≤◌, not, List, length, is_some, Some, None, Option, unwrap_or, sym, refl, ap, ◌∙◌, arith}
-use Rattle.routing.specs.declared.fault.TreeFault.TheVariants.{Count, OutOfRange, Repeated, Unrooted}
+use Rattle.routing.specs.declared.fault.TreeFault.TheVariants.{OutOfRange, Repeated, Unrooted}
 use Rattle.routing.specs.declared.link.TreeLink.{TreeLink}
 use Rattle.routing.specs.declared.routes.Routes.{Routes}
 use Rattle.routing.specs.Search.{first_below}

@@ -1,12 +1,12 @@
 -- What the tables of a tree hold, and the way from a node to the base station.
-use Rattle.std.proofs.Common.{◌≡◌, ℕ, zero, suc, ◌+◌, ◌-◌, ◌<◌, ◌≤◌, Bool, true, false, cond, not, eqb, List, [], ◌∷◌, length, get_or, drop, set, replicate, Some, None, Option, sym, refl, ap, ◌∙◌, arith}
+use Rattle.std.proofs.Common.{◌≡◌, ℕ, zero, suc, ◌+◌, ◌-◌, ◌<◌, ◌≤◌, false, List, [], ◌∷◌, length, get_or, drop, set, replicate, Some, None, Option, sym, refl, ap, ◌∙◌, arith}
 use Rattle.routing.specs.declared.link.TreeLink.{TreeLink}
 use Rattle.routing.specs.Search.{first_below}
-use Rattle.routing.specs.Tree.{bad_link, by_node, entered, hops, link_at, parent_table, slot_table}
+use Rattle.routing.specs.Tree.{bad_link, entered, hops, link_at, parent_table, slot_table}
 use Rattle.routing.proofs.Searches.{first_none}
 use Rattle.std.proofs.ByRecursion.{All-from_get_or, All-get_or, All-set, All-weaker}
 use Rattle.std.proofs.lemmas.List.{at_drop_all, at_drop_more, length-set}
-use Rattle.std.proofs.lemmas.Bool.{eq-eqb, ne_eqb}
+use Rattle.std.proofs.lemmas.Bool.{ne_eqb}
 use Rattle.std.proofs.lemmas.Bool.Decides.{nat_tests}
 use Rattle.std.specs.Option.{option_map}
 use Rattle.std.specs.List.{AllByRecursion}

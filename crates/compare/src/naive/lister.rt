@@ -1,7 +1,7 @@
 use crate::ending::{Ending, Stop};
-use crate::naive::engine::{Engine, Refusal};
+use crate::naive::scheduler::{Engine, Refusal};
 use crate::naive::page::{Halt, Page, stopped};
-use crate::naive::plan::make_plan;
+use crate::naive::steps::make_plan;
 use crate::naive::reading::{Unreadable, read};
 use crate::naive::site::Site;
 use crate::survey::{Edge, Link};

@@ -1,4 +1,4 @@
-use crate::naive::plan::Plan;
+use crate::naive::steps::Plan;
 
 /// The most queries of a table.
 pub const MOST_QUERIES: usize = 32;

@@ -1,5 +1,5 @@
-use Rattle.std.proofs.Common.{◌≡◌, ◌+◌, ◌^◌, ◌<◌, length, sym, ap, ◌∙◌, arith}
-use Rattle.lines.proofs.Writing.{length_digit, length_step, length_written, written_digit, written_step}
+use Rattle.std.proofs.Common.{arith}
+use Rattle.lines.proofs.Writing.{length_digit, length_step, written_digit, written_step}
 use Rattle.lines.proofs.writer.+put_number.Goals as goal
 
 pub bounds-out-at : goal.bounds-out-at

@@ -1,4 +1,4 @@
-use Rattle.std.proofs.Common.{length, unwrap_or, ap, ◌∙◌, arith}
+use Rattle.std.proofs.Common.{length, unwrap_or, ap, ◌∙◌}
 use Rattle.routing.specs.Tree.{hops}
 use Rattle.routing.proofs.Trees.{child_index, enter_all, enter_more}
 use Rattle.routing.proofs.tables.depth_table.Goals as goal

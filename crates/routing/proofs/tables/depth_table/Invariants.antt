@@ -1,5 +1,4 @@
 use Rattle.std.proofs.Common.{◌≡◌, length, drop, unwrap_or}
-use Rattle.routing.specs.declared.link.TreeLink.{TreeLink}
 use Rattle.routing.specs.Tree.{by_node, entered, hops}
 use Rattle.routing.proofs.tables.depth_table.Given as goal
 

@@ -1,4 +1,4 @@
-use Rattle.std.proofs.Common.{◌≡◌, length, take, ap, ◌∙◌, arith, rules}
+use Rattle.std.proofs.Common.{ap, ◌∙◌, arith, rules}
 use Rattle.interference.specs.Graph.{list_edge}
 use Rattle.interference.proofs.Graphs.{none_yet, one_more, same_edges}
 use Rattle.interference.proofs.graph.GraphModel.from_edges.Goals as goal

@@ -1,4 +1,4 @@
-use Rattle.std.proofs.Common.{◌≡◌, ℕ, ◌<◌, length, get_or, take}
+use Rattle.std.proofs.Common.{◌≡◌, ℕ, length, take}
 use Rattle.interference.specs.Graph.{EdgesWithin, list_edge, word_edge}
 use Rattle.interference.proofs.graph.GraphModel.from_edges.Given as goal
 

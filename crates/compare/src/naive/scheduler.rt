@@ -1,4 +1,4 @@
-use crate::naive::plan::Plan;
+use crate::naive::steps::Plan;
 use crate::naive::table::{MOST_QUERIES, Phase, Query, first_late, longest_wait};
 use std::alloc::{AllocError, Global};
 
