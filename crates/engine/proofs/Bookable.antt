@@ -1,5 +1,5 @@
 -- What an admitted row says, and what booking it leaves.
-use Rattle.std.proofs.Common.{◌≡◌, ℕ, ◌+◌, ◌-◌, ◌<◌, ◌≤◌, Bool, true, false, cond, not, ltb, leb, List, [], ◌∷◌, ◌++◌, length, Some, None, Ok, Err, Option, sym, refl, ap, ◌∙◌, arith}
+use Rattle.std.proofs.Common.{◌≡◌, ℕ, ◌+◌, ◌<◌, ◌≤◌, Bool, true, false, not, ltb, leb, List, [], ◌∷◌, ◌++◌, length, Some, None, Ok, Err, Option, refl, arith}
 use Rattle.engine.specs.Admissions.{admit_refusal}
 use Rattle.routing.specs.Search.{or_else}
 use Rattle.rules.specs.declared.refusal.Refusal.{Refusal}
@@ -7,7 +7,7 @@ use Rattle.rules.specs.declared.refusal.Refusal.TheVariants.{Terms, Numbers, Tab
 use Rattle.rules.specs.declared.row.Row.{Row}
 use Rattle.rules.specs.Phases.{is_booked}
 use Rattle.rules.specs.Rows.{booked_row, row_of}
-use Rattle.rules.specs.Rules.{View, book, book_refusal, book_with, fair, naming, trial, trial_with, unless_booked, when}
+use Rattle.rules.specs.Rules.{View, book, book_refusal, fair, naming, trial, unless_booked, when}
 use Rattle.rules.specs.Waits.{first_late}
 use Rattle.std.proofs.lemmas.Bool.{eq-eqb, leb-false, ltb-false, ne_eqb}
 use Rattle.std.specs.List.{AllByRecursion}

@@ -1,6 +1,5 @@
 -- The climb from 0 to the longest wait finds what the rule names.
 use Rattle.std.proofs.Common.{◌≡◌, ℕ, ◌<◌, ◌≤◌, eqb, List, Some, None, Option, sym, refl, arith}
-use Rattle.routing.specs.Search.{first_below}
 use Rattle.rules.specs.declared.row.Row.{Row}
 use Rattle.rules.specs.Waits.{demand, wait_of}
 use Rattle.rules.proofs.Waiting.{arrives, first_found, wait_found, wait_is}

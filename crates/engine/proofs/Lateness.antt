@@ -1,12 +1,11 @@
 -- Who feels a new row, and the late row that ranks first, row by row from the end.
-use Rattle.std.proofs.Common.{◌≡◌, ℕ, ◌+◌, ◌-◌, ◌*◌, ◌<◌, ◌≤◌, Bool, true, false, cond, not, ◌&&◌, eqb, List, [], ◌∷◌, ◌++◌, length, get_or, drop, Some, None, Option, sym, refl, ap, ◌∙◌, arith}
+use Rattle.std.proofs.Common.{◌≡◌, ℕ, ◌+◌, ◌-◌, ◌*◌, ◌<◌, ◌≤◌, Bool, true, false, not, eqb, List, [], ◌∷◌, ◌++◌, length, get_or, drop, Some, None, Option, sym, refl, ap, ◌∙◌, arith}
 use Rattle.engine.specs.Tables.{Kept}
 use Rattle.engine.proofs.Loads.{blank, load_extra}
-use Rattle.routing.specs.Search.{first_below}
 use Rattle.routing.proofs.Searches.{first_same}
 use Rattle.rules.specs.declared.row.Row.{Row}
 use Rattle.rules.specs.Rows.{before, better, first_in_rank}
-use Rattle.rules.specs.Waits.{against, demand, ends_by, keeps, load, rounds, wait_of}
+use Rattle.rules.specs.Waits.{demand, ends_by, keeps, load, wait_of}
 use Rattle.std.proofs.ByRecursion.{All-get_or}
 use Rattle.std.proofs.lemmas.List.{drop_all, drop_more}
 use Rattle.std.proofs.lemmas.Bool.Decides.{nat_tests}

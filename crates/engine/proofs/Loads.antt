@@ -1,5 +1,5 @@
 -- Loads over a list of rows, row by row.
-use Rattle.std.proofs.Common.{◌≡◌, ℕ, ◌+◌, ◌-◌, ◌*◌, ◌<◌, ◌≤◌, List, [], ◌∷◌, ◌++◌, length, get_or, drop, Option, sym, refl, ap, ◌∙◌, arith}
+use Rattle.std.proofs.Common.{◌≡◌, ℕ, ◌+◌, ◌-◌, ◌*◌, ◌<◌, ◌≤◌, List, [], ◌∷◌, ◌++◌, length, get_or, drop, Option, refl, arith}
 use Rattle.engine.specs.Tables.{Fair, with_extra}
 use Rattle.rules.specs.declared.phase.Phase.TheVariants.{Booked}
 use Rattle.rules.specs.declared.row.Row.{Row}

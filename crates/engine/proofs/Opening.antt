@@ -1,6 +1,5 @@
 -- A newly opened engine: its view, and the invariant of it.
 use Rattle.std.proofs.Common.{◌≡◌, ℕ, ◌≤◌, List, [], None, sym, refl, ap, ◌∙◌, subst}
-use mathlib.Core.Logic.{∥∥₁_map}
 use Rattle.rules.specs.declared.round.Round.{Round}
 use Rattle.rules.specs.declared.row.Row.{Row}
 use Rattle.rules.specs.Rules.{View, opened}

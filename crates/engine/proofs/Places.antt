@@ -1,5 +1,5 @@
 -- The rows in the first places of a list: the place of a number, and a table as the list of its rows.
-use Rattle.std.proofs.Common.{◌≡◌, ℕ, zero, suc, ◌+◌, ◌-◌, ◌<◌, ◌≤◌, true, false, List, [], ◌∷◌, map, length, take, set, Some, None, refl, ap, ◌∙◌, add-one, arith}
+use Rattle.std.proofs.Common.{◌≡◌, ℕ, zero, suc, ◌+◌, ◌<◌, ◌≤◌, true, false, List, [], ◌∷◌, map, length, take, set, Some, None, refl, ap, ◌∙◌, add-one, arith}
 use Rattle.engine.specs.Rows.{Stands, row_at}
 use Rattle.engine.proofs.Numbers.{Rising, past_number}
 use Rattle.routing.proofs.Searches.{first_none}

@@ -1,9 +1,8 @@
 -- An approved plan is fit to run, so every run over it keeps the promise.
-use Rattle.std.proofs.Common.{◌≡◌, ℕ, ◌+◌, ◌<◌, ◌≤◌, Bool, false, length, get_or, sym, ap, ◌∙◌}
+use Rattle.std.proofs.Common.{◌≡◌, ℕ, Bool, sym, ap, ◌∙◌}
 use Rattle.engine.specs.Engines.{PromiseFor}
 use Rattle.interference.specs.declared.transmission.Transmission.{Transmission}
 use Rattle.plan.specs.Plans.{Approved, Plan, length_of, part_of}
-use Rattle.rules.specs.Lists.{◌∈◌}
 use Rattle.rules.specs.Promise.{Fit}
 use Rattle.rules.proofs.Conflicts.{apart_from, place_of}
 use Rattle.rules.proofs.Keeping.{promised}

@@ -1,5 +1,5 @@
 -- A call on the table alone: the engine follows the rule where its table does.
-use Rattle.std.proofs.Common.{◌≡◌, List, Some, None, Option, Result, sym, refl, ap, ◌∙◌, subst}
+use Rattle.std.proofs.Common.{◌≡◌, List, Some, None, Option, Result, sym, ap, subst}
 use Rattle.engine.specs.Rows.{unless_refused}
 use Rattle.engine.proofs.Safe.{stays_good}
 use Rattle.rules.specs.declared.call.Call.{Call}

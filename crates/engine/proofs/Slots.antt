@@ -1,5 +1,5 @@
 -- A slot: what its start does to the table, to the running rounds and to the lines.
-use Rattle.std.proofs.Common.{◌≡◌, ℕ, suc, ◌+◌, ◌-◌, ◌/◌, ◌^◌, ◌<◌, ◌≤◌, Bool, true, false, not, eqb, ltb, List, [], ◌∷◌, ◌++◌, map, length, get_or, drop, is_some, Some, None, Ok, filter, Option, sym, refl, ap, ◌∙◌, subst, div-lt_iff_lt-mul, arith}
+use Rattle.std.proofs.Common.{◌≡◌, ℕ, ◌+◌, ◌-◌, ◌/◌, ◌<◌, ◌≤◌, Bool, true, false, not, List, [], ◌∷◌, ◌++◌, map, length, get_or, drop, is_some, Some, None, Ok, filter, Option, sym, refl, ap, ◌∙◌, subst, div-lt_iff_lt-mul, arith}
 use native.Mathlib.Bridge.{le_prop}
 use mathlib.Core.Bool.{false≢true}
 use mathlib.Core.Logic.{∥∥₁_elim}
@@ -10,7 +10,6 @@ use Rattle.engine.specs.Views.{Begun}
 use Rattle.engine.proofs.Rounds.{free, runs_all}
 use Rattle.engine.proofs.Safe.{few_lines}
 use Rattle.rules.specs.declared.call.Call.TheVariants.{Slot}
-use Rattle.rules.specs.declared.refusal.Refusal.{Refusal}
 use Rattle.rules.specs.declared.round.Line.{Line}
 use Rattle.rules.specs.declared.round.Round.{Round}
 use Rattle.rules.specs.declared.row.Row.{Row}

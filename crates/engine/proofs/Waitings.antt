@@ -1,5 +1,5 @@
 -- The answer of a wait, from the row that was found.
-use Rattle.std.proofs.Common.{◌≡◌, ℕ, ◌-◌, ◌<◌, ◌≤◌, List, [], ◌++◌, length, get_or, take, Some, None, Ok, Err, Option, sym, refl, ap, ◌∙◌, arith}
+use Rattle.std.proofs.Common.{◌≡◌, ℕ, ◌-◌, ◌<◌, List, take, Some, None, Err, Option, sym, ap, ◌∙◌, arith}
 use Rattle.engine.specs.Rows.{Stands, row_at}
 use Rattle.engine.specs.Tables.{with_extra}
 use Rattle.rules.specs.declared.refusal.Refusal.TheVariants.{NotInTable}

@@ -1,4 +1,5 @@
 //! The engine: booking, releasing and running queries over an approved plan.
+#![tactic(auto)]
 
 mod admission;
 pub mod booking;

@@ -1,5 +1,5 @@
 -- Lists of which no two transmissions conflict, by places.
-use Rattle.std.proofs.Common.{◌≡◌, ℕ, zero, suc, ◌+◌, ◌<◌, ◌≤◌, Bool, false, ◌⊎◌, List, [], ◌∷◌, length, get_or, sym, refl, ap, ◌∙◌, subst, inl, inr, arith}
+use Rattle.std.proofs.Common.{◌≡◌, ℕ, zero, suc, ◌<◌, Bool, false, List, [], ◌∷◌, length, get_or, sym, refl, subst, inl, inr, arith}
 use Rattle.interference.specs.declared.transmission.Transmission.{Transmission}
 use Rattle.rules.specs.Lists.{◌∈◌}
 use Rattle.rules.specs.Promise.{Apart}

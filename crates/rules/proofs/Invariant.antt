@@ -1,6 +1,5 @@
 -- What every reachable engine keeps: of each row, of each row that waits, of the table and of the running rounds.
-use Rattle.std.proofs.Common.{◌≡◌, ℕ, suc, ◌+◌, ◌-◌, ◌*◌, ◌/◌, ◌<◌, ◌≤◌, max, Bool, true, false, cond, List, [], ◌∷◌, map, Some, None, Option, sym, refl, ap, ◌∙◌, subst, zero-le, le_trans, mul-le-mul_left, div-le_self, arith}
-use mathlib.Core.Bool.{false≢true}
+use Rattle.std.proofs.Common.{◌≡◌, ℕ, ◌+◌, ◌-◌, ◌*◌, ◌/◌, ◌<◌, ◌≤◌, max, Bool, true, false, cond, List, [], ◌∷◌, map, Some, None, Option, sym, refl, ap, ◌∙◌, subst, le_trans, mul-le-mul_left, div-le_self, arith}
 use Rattle.rules.specs.declared.row.Row.{Row}
 use Rattle.rules.specs.declared.round.Round.{Round}
 use Rattle.rules.specs.Lists.{◌∈◌, total}

@@ -1,5 +1,5 @@
 -- The promise over every run, from what ties history and state.
-use Rattle.std.proofs.Common.{◌≡◌, ℕ, zero, suc, ◌+◌, ◌-◌, ◌*◌, ◌/◌, ◌<◌, ◌≤◌, Bool, true, false, cond, ◌&&◌, eqb, ltb, leb, ◌⊎◌, List, [], ◌∷◌, ◌++◌, map, length, Some, None, Option, sym, refl, ap, ◌∙◌, subst, subst₂, inl, inr, append_assoc, append-nil, zero-le, le-div_iff_mul-le, arith}
+use Rattle.std.proofs.Common.{◌≡◌, ℕ, zero, suc, ◌+◌, ◌-◌, ◌*◌, ◌/◌, ◌<◌, ◌≤◌, Bool, true, false, cond, ◌&&◌, ltb, leb, ◌⊎◌, List, [], ◌∷◌, ◌++◌, map, length, Some, None, Option, sym, refl, ap, ◌∙◌, subst, subst₂, inl, inr, append_assoc, append-nil, zero-le, le-div_iff_mul-le, arith}
 use Rattle.std.proofs.lemmas.Bool.{and_parts, leb-true, ltb-true}
 use Rattle.std.specs.List.{slice_get}
 use Rattle.interference.specs.declared.transmission.Transmission.{Transmission}
@@ -8,16 +8,15 @@ use Rattle.rules.specs.declared.phase.Phase.{Phase}
 use Rattle.rules.specs.declared.phase.Phase.TheVariants.{Booked, Ready, Waiting, Leaving, LeavingWaiting}
 use Rattle.rules.specs.declared.row.Row.{Row}
 use Rattle.rules.specs.Lists.{◌∈◌, count}
-use Rattle.rules.specs.Phases.{since}
-use Rattle.rules.specs.Rows.{row_of, waits}
+use Rattle.rules.specs.Rows.{row_of}
 use Rattle.rules.specs.Rules.{View, opened}
 use Rattle.rules.specs.Runs.{Moment, moment, step, history, last_view, Booking}
 use Rattle.rules.specs.Promise.{bookings_of, releases_of, starts_of, Within, InTime, Kept, Fit, Promised}
 use Rattle.rules.proofs.Sums.{count_map}
-use Rattle.rules.proofs.Steps.{row_of_is, Ways, by_ways}
+use Rattle.rules.proofs.Steps.{row_of_is, by_ways}
 use Rattle.rules.proofs.States.{opened_inv, waited}
 use Rattle.rules.proofs.RowsOf.{waiting_since, pend, waiting_in}
-use Rattle.rules.proofs.Stories.{Pair, Timely, SpacedBy, Known, Unknown, Story}
+use Rattle.rules.proofs.Stories.{Pair, Timely, SpacedBy, Story}
 use Rattle.rules.proofs.Links.{Linked, link_step}
 
 -- Places in the lists

@@ -1,20 +1,18 @@
 -- The laws of waits, admission and lines.
-use Rattle.std.proofs.Common.{◌≡◌, ℕ, zero, suc, ◌+◌, ◌-◌, ◌*◌, ◌/◌, ◌<◌, ◌≤◌, Bool, true, false, cond, not, ◌⊎◌, List, [], ◌∷◌, ◌++◌, map, length, Some, None, Ok, Option, sym, refl, ap, ◌∙◌, subst, inl, inr, zero-le, le-div_iff_mul-le, arith}
-use mathlib.Core.Bool.{false≢true}
-use Rattle.std.proofs.lemmas.Bool.{both_ways, not-true, not-false, cases_Bool}
-use Rattle.rules.specs.declared.call.Call.{Call}
+use Rattle.std.proofs.Common.{◌≡◌, ℕ, suc, ◌+◌, ◌-◌, ◌*◌, ◌/◌, ◌≤◌, Bool, true, false, not, ◌⊎◌, List, [], ◌∷◌, ◌++◌, map, length, Some, None, Option, refl, ap, ◌∙◌, subst, inl, inr, zero-le, le-div_iff_mul-le, arith}
+use Rattle.std.proofs.lemmas.Bool.{both_ways, not-true, cases_Bool}
 use Rattle.rules.specs.declared.refusal.Refusal.{Refusal}
 use Rattle.rules.specs.declared.round.Round.{Round}
 use Rattle.rules.specs.declared.row.Row.{Row}
 use Rattle.rules.specs.Lists.{◌∈◌}
-use Rattle.rules.specs.Rows.{booked_row, before, row_of, waits, first_in_rank}
-use Rattle.rules.specs.Waits.{IsWait, wait_of, keeps, first_late}
-use Rattle.rules.specs.Rules.{View, opened, book_refusal, book_with, trial_with, may_start, start_with, start_any, slot_over, lines_now, line_at, most_lines, wait, wait_in, or_not_in_table}
+use Rattle.rules.specs.Rows.{booked_row, before, waits, first_in_rank}
+use Rattle.rules.specs.Waits.{IsWait, keeps, first_late}
+use Rattle.rules.specs.Rules.{View, opened, book_refusal, book_with, trial_with, may_start, start_with, start_any, slot_over, lines_now, line_at, most_lines, wait_in, or_not_in_table}
 use Rattle.rules.specs.Runs.{last_view}
 use Rattle.rules.specs.Laws.{KeepsDeadline, NamesFirst, WaitLeast, WaitFound, Admission, TrialSame, WaitAnswered, LinesFit}
-use Rattle.rules.proofs.Ranks.{First, Leads, first_leads}
+use Rattle.rules.proofs.Ranks.{Leads, first_leads}
 use Rattle.rules.proofs.Waiting.{wait_found, wait_is, keeps_wait, wait_keeps}
-use Rattle.rules.proofs.Invariant.{free, Spaced, Rounds, Inv}
+use Rattle.rules.proofs.Invariant.{free, Spaced, Rounds}
 use Rattle.rules.proofs.Running.{Running, running_same, running_started, running_over}
 use Rattle.rules.proofs.Starts.{may_free}
 use Rattle.rules.proofs.States.{opened_inv, keeps_run, waited}

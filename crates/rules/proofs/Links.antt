@@ -1,9 +1,9 @@
 -- History and state: every call keeps what ties them.
-use Rattle.std.proofs.Common.{◌≡◌, ℕ, zero, suc, ◌+◌, ◌-◌, ◌<◌, ◌≤◌, Bool, true, false, cond, not, ◌&&◌, eqb, ltb, leb, ◌⊎◌, List, [], ◌∷◌, ◌++◌, map, length, Some, None, filter, Option, sym, refl, ap, ◌∙◌, subst, inl, inr, add-one, arith, length-append}
+use Rattle.std.proofs.Common.{◌≡◌, ℕ, zero, suc, ◌+◌, ◌-◌, ◌<◌, ◌≤◌, Bool, true, false, cond, not, ◌&&◌, eqb, leb, List, [], ◌∷◌, ◌++◌, map, length, Some, None, filter, sym, refl, ap, ◌∙◌, subst, add-one, arith, length-append}
 use mathlib.Core.Path.{fun_ext}
 use mathlib.Core.Bool.{false≢true}
 use Rattle.std.specs.List.{range_with_len}
-use Rattle.std.proofs.lemmas.Bool.{cases_Bool, eqb-true, eqb-false, eq-eqb, ne_eqb, and_parts, and_right, leb-true, not-false}
+use Rattle.std.proofs.lemmas.Bool.{eqb-true, eqb-false, eq-eqb, ne_eqb, and_parts, and_right, leb-true, not-false}
 use Rattle.std.proofs.lemmas.Bool.Decides.{nat_tests}
 use Rattle.interference.specs.declared.transmission.Transmission.{Transmission}
 use Rattle.rules.specs.declared.call.Call.{Call}
@@ -14,20 +14,20 @@ use Rattle.rules.specs.declared.refusal.Refusal.{Refusal}
 use Rattle.rules.specs.declared.round.Line.{Line}
 use Rattle.rules.specs.declared.round.Round.{Round}
 use Rattle.rules.specs.declared.row.Row.{Row}
-use Rattle.rules.specs.Lists.{◌∈◌, count}
-use Rattle.rules.specs.Phases.{is_booked, is_leaving, is_waiting, since, started, closed}
+use Rattle.rules.specs.Lists.{count}
+use Rattle.rules.specs.Phases.{is_booked, is_leaving, closed}
 use Rattle.rules.specs.Rows.{row_of, waits, has_number, booked_row, confirm_row, release_row, start_row, close_row, other_than, staying}
-use Rattle.rules.specs.Rules.{View, with_rows, fair, line_at, runs_in, start_with, lines_now, slot_over, opened}
-use Rattle.rules.specs.Runs.{Answer, Numbered, Done, Listed, Refused, Moment, moment, step, history, last_view, accepted, is_release, lines_by, ran_by, Booking, asked, gives}
-use Rattle.rules.specs.Promise.{gather, releases_in, releases_of, lines_in, lines_of, slots_of, is_line, times, starts_in, starts_of, bookings_of, Within, Fit}
+use Rattle.rules.specs.Rules.{View, with_rows, fair, line_at, runs_in, start_with, lines_now, slot_over}
+use Rattle.rules.specs.Runs.{Answer, Numbered, Done, Listed, Refused, Moment, moment, step, accepted, is_release, lines_by, ran_by, Booking, asked, gives}
+use Rattle.rules.specs.Promise.{releases_in, releases_of, lines_in, lines_of, slots_of, is_line, times, starts_in, starts_of, bookings_of, Fit}
 use Rattle.rules.proofs.Sums.{count-append, count_none, count_map}
-use Rattle.rules.proofs.Ranks.{First, Leads}
+use Rattle.rules.proofs.Ranks.{First}
 use Rattle.rules.proofs.Invariant.{free, Inv}
 use Rattle.rules.proofs.Running.{Running, running_same, running_started}
 use Rattle.rules.proofs.Starts.{may_free}
-use Rattle.rules.proofs.Steps.{row_of_is, Ways, by_ways, after_book}
+use Rattle.rules.proofs.Steps.{row_of_is, by_ways, after_book}
 use Rattle.rules.proofs.States.{row_only, keeps_inv, Waited, waited}
-use Rattle.rules.proofs.RowsOf.{waiting_since, pend, Alike, RowKept, kept_same, kept_map, kept_keep, row_found, row_end}
+use Rattle.rules.proofs.RowsOf.{waiting_since, pend, RowKept, kept_same, kept_map, kept_keep, row_found, row_end}
 use Rattle.rules.proofs.Histories.{gather_end, gather_quiet}
 use Rattle.rules.proofs.Stories.{Story, story_kept, story_booked, story_released, story_started}
 use Rattle.rules.proofs.Slots.{is_round, started_at, Lines, lines_slot}

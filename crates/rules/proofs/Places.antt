@@ -1,17 +1,15 @@
 -- The rules by places: what code that finds a row by its place, or a first row by any way, needs to know.
-use Rattle.std.proofs.Common.{◌≡◌, ℕ, zero, suc, ◌+◌, ◌-◌, ◌*◌, ◌/◌, ◌<◌, ◌≤◌, Bool, true, false, cond, not, ◌&&◌, ◌||◌, eqb, ltb, leb, ◌⊎◌, List, [], ◌∷◌, ◌++◌, map, length, get_or, set, Some, None, filter, Option, sym, refl, ap, ◌∙◌, subst, inl, inr, append-nil, zero-le, arith}
+use Rattle.std.proofs.Common.{◌≡◌, ℕ, zero, suc, ◌+◌, ◌-◌, ◌*◌, ◌<◌, Bool, true, false, cond, not, eqb, List, [], ◌∷◌, ◌++◌, map, length, get_or, set, Some, None, filter, Option, sym, refl, ap, ◌∙◌, inl, inr, arith}
 use mathlib.Core.Path.{fun_ext}
-use mathlib.Core.Bool.{false≢true}
-use Rattle.std.proofs.lemmas.Bool.{both_ways, eqb-true, eq-eqb, ne_eqb, eqb-false}
+use Rattle.std.proofs.lemmas.Bool.{eq-eqb, ne_eqb}
 use Rattle.std.proofs.lemmas.Bool.Decides.{nat_tests}
 use Rattle.std.specs.List.{remove}
 use Rattle.routing.specs.Search.{first_below}
 use Rattle.rules.specs.declared.refusal.Refusal.TheVariants.{Deadline}
-use Rattle.rules.specs.declared.round.Round.{Round}
 use Rattle.rules.specs.declared.row.Row.{Row}
-use Rattle.rules.specs.Lists.{◌∈◌, total}
+use Rattle.rules.specs.Lists.{◌∈◌}
 use Rattle.rules.specs.Rows.{before, has_number, row_of, waits, first_in_rank, confirm_row, release_row, start_row, close_row, other_than}
-use Rattle.rules.specs.Waits.{against, rounds, load, demand, wait_of, ends_by, keeps, first_late}
+use Rattle.rules.specs.Waits.{against, rounds, load, wait_of, ends_by, keeps, first_late}
 use Rattle.rules.specs.Rules.{View, naming, may_start, start_with, start_any}
 use Rattle.rules.proofs.Ranks.{First, Leads, first_leads}
 use Rattle.rules.proofs.Sums.{from_map, from_keep, from_end}

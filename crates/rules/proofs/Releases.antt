@@ -1,17 +1,16 @@
 -- A release keeps the table.
-use Rattle.std.proofs.Common.{◌≡◌, ℕ, suc, ◌+◌, ◌-◌, ◌*◌, ◌/◌, ◌<◌, ◌≤◌, max, Bool, true, false, cond, ◌&&◌, ◌⊎◌, List, [], ◌∷◌, map, sym, refl, ap, ◌∙◌, subst, inl, inr, zero-le, arith}
+use Rattle.std.proofs.Common.{◌≡◌, ℕ, ◌+◌, ◌<◌, ◌≤◌, Bool, true, false, cond, ◌⊎◌, List, map, sym, refl, subst, inl, inr, zero-le, arith}
 use mathlib.Core.Bool.{false≢true}
 use Rattle.rules.specs.declared.row.Row.{Row}
-use Rattle.rules.specs.declared.phase.Phase.{Phase}
-use Rattle.rules.specs.declared.phase.Phase.TheVariants.{Booked, Ready, Waiting, Leaving, LeavingWaiting}
-use Rattle.rules.specs.Lists.{◌∈◌, total}
-use Rattle.rules.specs.Phases.{is_booked, is_waiting, since}
-use Rattle.rules.specs.Rows.{before, waits, has_number, release_row}
-use Rattle.rules.specs.Waits.{against, rounds}
+use Rattle.rules.specs.declared.phase.Phase.TheVariants.{Waiting}
+use Rattle.rules.specs.Lists.{◌∈◌}
+use Rattle.rules.specs.Phases.{is_booked, since}
+use Rattle.rules.specs.Rows.{waits, has_number, release_row}
+use Rattle.rules.specs.Waits.{rounds}
 use Rattle.rules.proofs.Sums.{from_map}
 use Rattle.rules.proofs.Counts.{div_release}
 use Rattle.rules.proofs.Ranks.{upto, upto_self, Last, NoneUpto, last_upto, before_upto}
-use Rattle.rules.proofs.Invariant.{free, begun, claims, Sound, Held, Table, held_grow, Plain, map_unique, map_below, map_admitted}
+use Rattle.rules.proofs.Invariant.{begun, claims, Sound, Held, Table, held_grow, Plain, map_unique, map_below, map_admitted}
 
 -- a row, released in slot s if the test says so
 abbrev released_if : Bool → ℕ → Row → Row

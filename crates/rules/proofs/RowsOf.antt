@@ -1,14 +1,14 @@
 -- The row of a number, over the changes of the table.
-use Rattle.std.proofs.Common.{◌≡◌, ℕ, suc, ◌+◌, ◌-◌, ◌<◌, ◌≤◌, Bool, true, false, cond, eqb, ◌⊎◌, List, [], ◌∷◌, ◌++◌, map, Some, None, filter, Option, sym, refl, ap, ◌∙◌, subst, inl, inr, arith}
+use Rattle.std.proofs.Common.{◌≡◌, ℕ, Bool, true, false, cond, eqb, ◌⊎◌, List, [], ◌∷◌, ◌++◌, map, Some, None, filter, Option, sym, refl, ap, ◌∙◌, subst, inl, inr, arith}
 use mathlib.Core.Bool.{false≢true}
-use Rattle.std.proofs.lemmas.Bool.{both_ways, eqb-true, eq-eqb, ne_eqb, eqb-false, cases_Bool}
+use Rattle.std.proofs.lemmas.Bool.{both_ways, eqb-false, cases_Bool}
 use Rattle.rules.specs.declared.phase.Phase.{Phase}
 use Rattle.rules.specs.declared.phase.Phase.TheVariants.{Booked, Ready, Waiting, Leaving, LeavingWaiting}
 use Rattle.rules.specs.declared.row.Row.{Row}
 use Rattle.rules.specs.Lists.{◌∈◌}
 use Rattle.rules.specs.Phases.{is_waiting, since}
 use Rattle.rules.specs.Rows.{row_of, has_number}
-use Rattle.rules.proofs.Sums.{from_keep, keep_passes}
+use Rattle.rules.proofs.Sums.{from_keep}
 use Rattle.rules.proofs.Steps.{row_of_is}
 
 pub some_row : (x y : Row) → ◌≡◌ {A = Option Row} (Some x) (Some y) → x ≡ y

@@ -1,19 +1,19 @@
 -- A slot keeps the table.
-use Rattle.std.proofs.Common.{◌≡◌, ℕ, suc, ◌+◌, ◌-◌, ◌*◌, ◌/◌, ◌<◌, ◌≤◌, max, Bool, true, false, cond, not, List, [], ◌∷◌, map, Some, None, filter, Option, sym, refl, ap, ◌∙◌, subst, zero-le, le_trans, mul-le-mul_left, arith}
+use Rattle.std.proofs.Common.{◌≡◌, ℕ, ◌+◌, ◌-◌, ◌*◌, ◌<◌, ◌≤◌, max, Bool, true, false, cond, List, map, Some, None, filter, Option, sym, refl, ◌∙◌, subst, zero-le, mul-le-mul_left, arith}
 use mathlib.Core.Bool.{false≢true}
-use Rattle.std.proofs.lemmas.Bool.{both_ways, leb-true, leb-false, eq-eqb}
+use Rattle.std.proofs.lemmas.Bool.{leb-true, leb-false, eq-eqb}
 use Rattle.rules.specs.declared.row.Row.{Row}
 use Rattle.rules.specs.declared.phase.Phase.{Phase}
 use Rattle.rules.specs.declared.phase.Phase.TheVariants.{Booked, Ready, Waiting, Leaving, LeavingWaiting}
 use Rattle.rules.specs.Lists.{◌∈◌, total}
 use Rattle.rules.specs.Phases.{is_booked, is_waiting, since, started}
-use Rattle.rules.specs.Rows.{before, waits, has_number, start_row, staying}
+use Rattle.rules.specs.Rows.{before, waits, has_number, start_row}
 use Rattle.rules.specs.Waits.{against, rounds}
 use Rattle.rules.specs.Rules.{may_start}
 use Rattle.rules.proofs.Sums.{total_mono_map, total_more, total-map, total_kept, from_map, from_keep}
 use Rattle.rules.proofs.Counts.{div_waits}
 use Rattle.rules.proofs.Ranks.{upto, First, Leads, before_other, before_is_upto}
-use Rattle.rules.proofs.Waiting.{against_mono, Keeps, keeps_less}
+use Rattle.rules.proofs.Waiting.{against_mono, keeps_less}
 use Rattle.rules.proofs.Invariant.{free, begun, claims, Sound, Held, Table, sound_later, next_bound, Plain, map_unique, map_below, map_admitted}
 
 -- Phases

@@ -1,25 +1,25 @@
 -- Every call keeps the invariant, and what the invariant says of waits.
-use Rattle.std.proofs.Common.{◌≡◌, ℕ, suc, ◌+◌, ◌-◌, ◌*◌, ◌/◌, ◌<◌, ◌≤◌, max, Bool, true, false, cond, not, leb, List, [], ◌∷◌, ◌++◌, map, Some, None, Option, sym, refl, ap, ◌∙◌, subst, zero-le, le_of_eq, mul-le-mul_left, arith}
+use Rattle.std.proofs.Common.{◌≡◌, ℕ, ◌+◌, ◌-◌, ◌≤◌, Bool, true, false, cond, leb, List, [], ◌∷◌, Some, sym, refl, ◌∙◌, subst, zero-le, le_of_eq, mul-le-mul_left, arith}
 use mathlib.Core.Bool.{false≢true}
 use Rattle.std.proofs.lemmas.Bool.{and_parts, leb-true, eqb-true, not-false}
 use Rattle.rules.specs.declared.call.Call.{Call}
 use Rattle.rules.specs.declared.phase.Phase.TheVariants.{Ready}
 use Rattle.rules.specs.declared.row.Row.{Row}
-use Rattle.rules.specs.Lists.{◌∈◌, total}
-use Rattle.rules.specs.Phases.{is_booked, is_open, since, closed}
+use Rattle.rules.specs.Lists.{◌∈◌}
+use Rattle.rules.specs.Phases.{is_booked, since, closed}
 use Rattle.rules.specs.Rows.{row_of, has_number, waits, booked_row, other_than, staying}
 use Rattle.rules.specs.Waits.{against, rounds, demand, IsWait, keeps}
 use Rattle.rules.specs.Rules.{View, fair, opened}
 use Rattle.rules.specs.Runs.{step, last_view}
 use Rattle.rules.proofs.Sums.{total_mono}
 use Rattle.rules.proofs.Ranks.{upto_self}
-use Rattle.rules.proofs.Waiting.{against_mono, Keeps, wait_exists, wait_below, keeps_from}
-use Rattle.rules.proofs.Invariant.{free, claims, Sound, Held, Table, Rounds, Inv}
+use Rattle.rules.proofs.Waiting.{against_mono, wait_exists, keeps_from}
+use Rattle.rules.proofs.Invariant.{claims, Sound, Inv}
 use Rattle.rules.proofs.Starts.{may_free, may_not_free, table_swept, table_started, table_paused}
 use Rattle.rules.proofs.Releases.{table_released}
 use Rattle.rules.proofs.Tables.{some_quiet, confirm_quiet, close_quiet, table_moved, table_booked, table_withdrawn}
 use Rattle.rules.proofs.Running.{running_same, running_started, running_over}
-use Rattle.rules.proofs.Steps.{row_of_is, Ways, by_ways}
+use Rattle.rules.proofs.Steps.{row_of_is, by_ways}
 
 -- a row that has the number is the row of the number
 pub row_only : (v : View) → Inv v → (n : ℕ) (q h : Row) → row_of n v.rows ≡ Some q → h ∈ v.rows → has_number n h ≡ true → h ≡ q

@@ -1,18 +1,17 @@
 -- The ways in which a call can end, each with what it rests on.
-use Rattle.std.proofs.Common.{◌≡◌, ℕ, suc, ◌+◌, ◌-◌, ◌<◌, ◌≤◌, Bool, true, false, cond, not, ◌&&◌, eqb, ltb, leb, ◌⊎◌, List, [], ◌∷◌, ◌++◌, map, length, Some, None, filter, Option, sym, refl, ap, ◌∙◌, subst, inl, inr, arith}
-use mathlib.Core.Bool.{false≢true}
-use Rattle.std.proofs.lemmas.Bool.{both_ways, not-false, ltb-false, eqb-true, eq-eqb, and_parts, leb-true}
+use Rattle.std.proofs.Common.{◌≡◌, ℕ, ◌+◌, ◌≤◌, Bool, true, false, cond, not, ltb, leb, ◌⊎◌, List, [], ◌∷◌, ◌++◌, map, length, Some, None, filter, Option, sym, refl, ap, ◌∙◌, inl, inr, arith}
+use Rattle.std.proofs.lemmas.Bool.{not-false, ltb-false, eqb-true}
 use Rattle.routing.specs.Search.{or_else}
 use Rattle.rules.specs.declared.call.Call.{Call}
 use Rattle.rules.specs.declared.call.Call.TheVariants.{Book, Trial, Confirm, Withdraw, Release, Close, Slot}
 use Rattle.rules.specs.declared.refusal.Refusal.{Refusal}
-use Rattle.rules.specs.declared.refusal.Refusal.TheVariants.{Terms, Numbers, TableFull, Deadline, NotBooked, NotOpen, TooEarly, RoundWaits, LastSlot, ShortList}
+use Rattle.rules.specs.declared.refusal.Refusal.TheVariants.{Terms, Numbers, TableFull, NotBooked, NotOpen, TooEarly, RoundWaits}
 use Rattle.rules.specs.declared.row.Row.{Row}
 use Rattle.rules.specs.Lists.{◌∈◌}
 use Rattle.rules.specs.Phases.{is_booked, is_open}
 use Rattle.rules.specs.Rows.{row_of, waits, has_number, first_in_rank, booked_row, confirm_row, release_row, close_row, other_than}
 use Rattle.rules.specs.Waits.{first_late}
-use Rattle.rules.specs.Rules.{View, with_rows, when, fair, naming, book_refusal, book_with, trial_with, settle, unless_booked, release_refusal, unless_open, may_start, start_with, start_any, lines_now, slot_over, slot_refusal, slot_with}
+use Rattle.rules.specs.Rules.{View, with_rows, when, fair, naming, book_refusal, book_with, trial_with, settle, unless_booked, release_refusal, unless_open, may_start, start_with, lines_now, slot_over, slot_refusal, slot_with}
 use Rattle.rules.specs.Runs.{Answer, Numbered, Done, Listed, Refused, numbered, done, listed, step}
 use Rattle.rules.proofs.Ranks.{First, Leads, first_leads}
 

@@ -1,12 +1,11 @@
 -- The story of one number: how it was booked, its releases and its starts, and how they go with its row.
-use Rattle.std.proofs.Common.{◌≡◌, ℕ, suc, ◌+◌, ◌-◌, ◌<◌, ◌≤◌, Bool, true, false, cond, ◌⊎◌, List, [], ◌∷◌, ◌++◌, map, Some, None, Option, sym, refl, ap, ◌∙◌, subst, inl, inr, append_assoc, append-nil, arith}
-use mathlib.Core.Bool.{false≢true}
-use Rattle.std.proofs.lemmas.Bool.{eq-eqb, ne_eqb}
+use Rattle.std.proofs.Common.{◌≡◌, ℕ, ◌+◌, ◌-◌, ◌<◌, ◌≤◌, true, false, ◌⊎◌, List, [], ◌∷◌, ◌++◌, map, Some, None, Option, sym, refl, ap, ◌∙◌, subst, inl, inr, append-nil, arith}
+use Rattle.std.proofs.lemmas.Bool.{eq-eqb}
 use Rattle.rules.specs.declared.phase.Phase.{Phase}
 use Rattle.rules.specs.declared.phase.Phase.TheVariants.{Booked, Ready, Waiting, Leaving, LeavingWaiting}
 use Rattle.rules.specs.declared.row.Row.{Row}
 use Rattle.rules.specs.Lists.{◌∈◌}
-use Rattle.rules.specs.Phases.{is_waiting, since, started}
+use Rattle.rules.specs.Phases.{since, started}
 use Rattle.rules.specs.Rows.{row_of, waits, has_number, booked_row, release_row, start_row}
 use Rattle.rules.specs.Rules.{View}
 use Rattle.rules.specs.Runs.{Booking}

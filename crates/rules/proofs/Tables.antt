@@ -1,17 +1,17 @@
 -- The calls on the table keep it: Confirm, Close, Book and Withdraw.
-use Rattle.std.proofs.Common.{◌≡◌, ℕ, suc, ◌+◌, ◌-◌, ◌*◌, ◌/◌, ◌<◌, ◌≤◌, max, Bool, true, false, cond, not, ◌&&◌, ◌⊎◌, List, [], ◌∷◌, ◌++◌, map, Some, None, filter, Option, sym, refl, ap, ◌∙◌, subst, inl, inr, zero-le, mul-le-mul_left, arith}
+use Rattle.std.proofs.Common.{◌≡◌, ℕ, ◌+◌, ◌-◌, ◌/◌, ◌≤◌, Bool, true, false, cond, ◌⊎◌, List, [], ◌∷◌, ◌++◌, map, None, filter, sym, refl, ap, ◌∙◌, subst, inl, inr, zero-le, mul-le-mul_left, arith}
 use mathlib.Core.Bool.{false≢true}
 use Rattle.rules.specs.declared.row.Row.{Row}
 use Rattle.rules.specs.declared.phase.Phase.{Phase}
 use Rattle.rules.specs.declared.phase.Phase.TheVariants.{Booked, Ready, Waiting, Leaving, LeavingWaiting}
 use Rattle.rules.specs.Lists.{◌∈◌, total}
 use Rattle.rules.specs.Phases.{is_booked, is_waiting, since, closed}
-use Rattle.rules.specs.Rows.{before, waits, has_number, at_phase, confirm_row, close_row}
+use Rattle.rules.specs.Rows.{before, waits, at_phase}
 use Rattle.rules.specs.Waits.{against, rounds, first_late}
 use Rattle.rules.proofs.Sums.{from_map, from_end, from_keep, total_end, total-keep, total_kept}
 use Rattle.rules.proofs.Ranks.{upto}
-use Rattle.rules.proofs.Waiting.{Keeps, keeps_less, none_late}
-use Rattle.rules.proofs.Invariant.{free, begun, claims, Sound, Held, Table, held_grow, idle_none, Plain, map_unique, map_below, map_admitted}
+use Rattle.rules.proofs.Waiting.{keeps_less, none_late}
+use Rattle.rules.proofs.Invariant.{begun, claims, Sound, Held, Table, held_grow, idle_none, Plain, map_unique, map_below, map_admitted}
 
 -- a change of phase that leaves what waits, and makes no confirmed row unconfirmed
 pub record Quiet (new old : Phase) : Type 0 where

@@ -1,15 +1,15 @@
 -- The longest wait: it exists where the demand meets any number at all, and it is what the search finds.
-use Rattle.std.proofs.Common.{◌≡◌, ℕ, zero, suc, ◌+◌, ◌-◌, ◌*◌, ◌/◌, ◌<◌, ◌≤◌, Bool, true, false, cond, not, eqb, leb, ◌⊎◌, List, [], ◌∷◌, ◌++◌, map, Some, None, filter, Option, sym, refl, ap, ◌∙◌, subst, inl, inr, zero-le, le_trans, le_of_eq, le_antisymm, mul-le-mul_left, arith}
+use Rattle.std.proofs.Common.{◌≡◌, ℕ, zero, suc, ◌+◌, ◌/◌, ◌<◌, ◌≤◌, Bool, true, false, cond, not, eqb, leb, ◌⊎◌, List, Some, None, Option, sym, refl, ap, ◌∙◌, subst, inl, inr, zero-le, le_trans, le_of_eq, le_antisymm, mul-le-mul_left, arith}
 use native.Mathlib.Nat.{div-zero}
 use mathlib.Core.Bool.{false≢true}
-use Rattle.std.proofs.lemmas.Bool.{both_ways, leb-true, le-leb, eqb-true, eq-eqb, eqb-false, cases_Bool, not-false}
+use Rattle.std.proofs.lemmas.Bool.{both_ways, leb-true, le-leb, eqb-true, eq-eqb, eqb-false, cases_Bool}
 use Rattle.routing.specs.Search.{first_below, or_else}
 use Rattle.routing.proofs.Searches.{first_none}
 use Rattle.rules.specs.declared.row.Row.{Row}
-use Rattle.rules.specs.Lists.{◌∈◌, total}
-use Rattle.rules.specs.Rows.{before, first_in_rank}
+use Rattle.rules.specs.Lists.{◌∈◌}
+use Rattle.rules.specs.Rows.{before}
 use Rattle.rules.specs.Waits.{against, rounds, load, demand, IsWait, wait_of, ends_by, keeps, first_late}
-use Rattle.rules.proofs.Sums.{total_mono, total_mono_map, total-map, total_kept}
+use Rattle.rules.proofs.Sums.{total_mono}
 use Rattle.rules.proofs.Counts.{div_mono}
 use Rattle.rules.proofs.Ranks.{Leads, first_leads}
 

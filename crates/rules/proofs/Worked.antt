@@ -1,19 +1,16 @@
 -- The worked examples.
-use Rattle.std.proofs.Common.{◌≡◌, ℕ, zero, suc, ◌+◌, ◌-◌, ◌*◌, ◌/◌, ◌<◌, ◌≤◌, Bool, true, false, cond, not, ◌&&◌, eqb, ltb, leb, ◌⊎◌, List, [], ◌∷◌, ◌++◌, map, length, Some, None, Ok, Err, Option, Result, sym, refl, ap, ◌∙◌, subst, inl, inr, zero-le, le_trans, le_of_eq, arith}
-use Rattle.std.proofs.lemmas.Bool.{eqb-true, leb-true, both_ways, not-true, and_parts}
+use Rattle.std.proofs.Common.{◌≡◌, ℕ, zero, suc, ◌+◌, ◌≤◌, Bool, true, false, not, ◌&&◌, eqb, ltb, leb, List, [], ◌∷◌, ◌++◌, map, length, Some, None, Ok, Option, Result, sym, refl, ap, ◌∙◌, zero-le, le_trans, le_of_eq}
+use Rattle.std.proofs.lemmas.Bool.{eqb-true, leb-true, not-true, and_parts}
 use Rattle.rules.specs.declared.call.Call.{Call}
-use Rattle.rules.specs.declared.call.Call.TheVariants.{Book, Confirm, Release, Close, Slot}
+use Rattle.rules.specs.declared.call.Call.TheVariants.{Book}
 use Rattle.rules.specs.declared.refusal.Refusal.{Refusal}
-use Rattle.rules.specs.declared.refusal.Refusal.TheVariants.{Deadline}
 use Rattle.rules.specs.declared.row.Row.{Row}
-use Rattle.rules.specs.Lists.{◌∈◌}
 use Rattle.rules.specs.Rows.{booked_row, has_number, first_in_rank, better}
-use Rattle.rules.specs.Waits.{demand, IsWait, wait_of, ends_by, keeps, first_late}
+use Rattle.rules.specs.Waits.{demand, wait_of, ends_by, keeps, first_late}
 use Rattle.rules.specs.Rules.{View, fair, naming, book_refusal, book_with, book, opened}
-use Rattle.rules.specs.Runs.{Answer, Numbered, Moment, numbered, history, last_view, step}
+use Rattle.rules.specs.Runs.{Numbered, Moment, numbered, history, last_view}
 use Rattle.rules.specs.Promise.{gather, starts_in, releases_in}
-use Rattle.rules.specs.Examples.{first, second, third, three, booking, run, start_slots, codes, code, inversion, early, leaving, removed, following, numbers, Worked}
-use Rattle.rules.proofs.Ranks.{First, Leads, first_leads}
+use Rattle.rules.specs.Examples.{first, second, third, three, booking, code, inversion, early, leaving, removed, following, numbers, Worked}
 use Rattle.rules.proofs.Waiting.{demand_mono, wait_is}
 use Rattle.rules.proofs.Steps.{after_book}
 

@@ -1,6 +1,6 @@
 -- The promise over every run of an engine, said of what happened in the run: accepted releases, starts, lines, and the
 -- tables as the slots found them.
-use Rattle.std.specs.Prelude.{◌≡◌, ℕ, ◌+◌, ◌-◌, ◌/◌, ◌<◌, ◌≤◌, Bool, true, false, cond, ◌&&◌, List, [], ◌∷◌, ◌++◌, length, Some, None, Option, ◌==◌, nat_eq, nat_le, nat_lt}
+use Rattle.std.specs.Prelude.{◌≡◌, ℕ, ◌+◌, ◌-◌, ◌/◌, ◌<◌, ◌≤◌, Bool, false, cond, ◌&&◌, List, [], ◌∷◌, ◌++◌, length, Some, ◌==◌, nat_eq, nat_le, nat_lt}
 use Rattle.std.specs.List.{range_with_len, slice_get}
 use Rattle.interference.specs.declared.transmission.Transmission.{Transmission}
 use Rattle.rules.specs.declared.call.Call.{Call}

@@ -1,8 +1,6 @@
 -- The rules of the engine: what each call answers, and what it leaves.
 use Rattle.std.specs.Prelude.{ℕ, ◌+◌, ◌-◌, ◌/◌, Bool, true, false, cond, not, ◌&&◌, List, [], ◌∷◌, ◌++◌, map, length, Some, None, Ok, Err, filter, Option, Result, ◌==◌, nat_le, nat_lt}
 use Rattle.routing.specs.Search.{or_else}
-use Rattle.rules.specs.declared.phase.Phase.{Phase}
-use Rattle.rules.specs.declared.phase.Phase.TheVariants.{Booked, Ready, Waiting, Leaving, LeavingWaiting}
 use Rattle.rules.specs.declared.refusal.Refusal.{Refusal}
 use Rattle.rules.specs.declared.refusal.Refusal.TheVariants.{FirstSlot, Terms, Numbers, TableFull, Deadline, NotBooked, NotOpen, TooEarly, RoundWaits, LastSlot, ShortList, NotInTable}
 use Rattle.rules.specs.declared.round.Line.{Line}

@@ -1,4 +1,5 @@
 //! The rules of the engine: its plain types, and what holds of every run.
+#![tactic(auto)]
 
 pub mod call;
 pub mod phase;

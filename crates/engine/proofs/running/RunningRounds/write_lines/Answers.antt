@@ -1,4 +1,4 @@
-use Rattle.std.proofs.Common.{◌<◌, ◌≤◌, length, take, sym, arith}
+use Rattle.std.proofs.Common.{sym, arith}
 use Rattle.engine.proofs.Rounds.{lines_all, lines_more, runs_at}
 use Rattle.engine.proofs.running.RunningRounds.write_lines.Goals as goal
 use Rattle.std.proofs.lemmas.List.{length-take-le}

@@ -1,4 +1,4 @@
-use Rattle.std.proofs.Common.{◌≡◌, ℕ, ◌+◌, ◌-◌, ◌/◌, ◌<◌, ◌≤◌, true, false, ltb, length, take, sym, refl, ap, ◌∙◌, subst, arith}
+use Rattle.std.proofs.Common.{◌≡◌, length, take, sym, ap, ◌∙◌, subst, arith}
 use Rattle.engine.specs.Engines.{view}
 use Rattle.engine.specs.Rounds.{Runs}
 use Rattle.engine.specs.Starts.{started_by}
@@ -7,9 +7,8 @@ use Rattle.engine.proofs.Slots.{fit_now, over_by, room_now, runs_now, slot_done,
 use Rattle.engine.proofs.Settles.{call_good}
 use Rattle.engine.proofs.state.Engine.slot.Goals as goal
 use Rattle.rules.specs.declared.call.Call.TheVariants.{Slot}
-use Rattle.rules.specs.Rules.{most_lines, start_any}
+use Rattle.rules.specs.Rules.{start_any}
 use Rattle.std.proofs.lemmas.List.{length-take-le}
-use Rattle.std.proofs.lemmas.Bool.{ltb-false}
 use Rattle.std.specs.List.{AllByRecursion}
 
 pub start_any-requires : goal.start_any-requires

@@ -1,4 +1,4 @@
-use Rattle.std.proofs.Common.{◌≡◌, ◌-◌, length, take, Some, None, Ok, Err, sym, ap, ◌∙◌, subst, arith}
+use Rattle.std.proofs.Common.{◌≡◌, ◌-◌, take, Some, None, Ok, Err, sym, ap, ◌∙◌, subst, arith}
 use Rattle.engine.specs.Admissions.{admit_refusal}
 use Rattle.engine.specs.Engines.{view}
 use Rattle.engine.specs.Tables.{Fair, Kept}

@@ -1,4 +1,4 @@
-use Rattle.std.proofs.Common.{◌-◌, ◌<◌, ◌≤◌, length, take, Some, None, sym, refl, ap, ◌∙◌, subst, arith}
+use Rattle.std.proofs.Common.{◌-◌, Some, None, sym, refl, subst, arith}
 use Rattle.engine.specs.Engines.{view}
 use Rattle.engine.specs.Meanings.{Waited}
 use Rattle.engine.specs.Tables.{Fair}

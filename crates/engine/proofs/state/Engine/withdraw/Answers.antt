@@ -1,4 +1,4 @@
-use Rattle.std.proofs.Common.{map, Ok, Err, filter, ap}
+use Rattle.std.proofs.Common.{Ok, Err, filter, ap}
 use Rattle.engine.specs.Bookings.{back_with}
 use Rattle.engine.specs.Engines.{view}
 use Rattle.engine.specs.Views.{rows_of}
