@@ -1,15 +1,14 @@
 -- What an approved draft gives, step by step.
-use Rattle.std.proofs.Common.{◌≡◌, ℕ, ◌+◌, ◌-◌, ◌<◌, ◌≤◌, min, Bool, true, false, cond, ◌&&◌, eqb, List, length, get_or, take, drop, Some, None, Ok, sum, Option, sym, refl, ap, ◌∙◌, subst, arith}
+use Rattle.std.proofs.Common.{◌≡◌, ℕ, ◌+◌, ◌-◌, ◌<◌, min, Bool, true, false, cond, ◌&&◌, List, length, get_or, take, drop, Some, None, Ok, sum, Option, sym, refl, ap, ◌∙◌, subst, arith}
 use Rattle.interference.specs.declared.transmission.Transmission.{Transmission}
 use Rattle.plan.specs.Approval.{Spaced, approval_fault, conflicts_at, conflicts_with, is_stray, step_fault}
-use Rattle.plan.specs.Drafts.{bad_shape, step_of, step_part, transmission_at}
+use Rattle.plan.specs.Drafts.{bad_shape, step_of, transmission_at}
 use Rattle.plan.specs.Plans.{ApprovalDone, Approved, Plan}
-use Rattle.plan.specs.declared.fault.ApprovalFault.{ApprovalFault}
-use Rattle.plan.specs.declared.fault.ApprovalFault.TheVariants.{Tree, Shape, NotToParent, Conflicting, SlotCount, OutOfOrder}
+use Rattle.plan.specs.declared.fault.ApprovalFault.TheVariants.{Tree, Shape, NotToParent, Conflicting}
 use Rattle.plan.proofs.Judgement.{Shaped, shaped}
 use Rattle.plan.proofs.Marks.{step_place}
 use Rattle.routing.specs.declared.link.TreeLink.{TreeLink}
-use Rattle.routing.specs.Search.{any_below, first_below, or_else}
+use Rattle.routing.specs.Search.{first_below, or_else}
 use Rattle.routing.specs.Tree.{parent_table, slot_table, tree_fault}
 use Rattle.routing.proofs.Searches.{any_none, first_none}
 use Rattle.std.proofs.lemmas.List.{get_or-drop, get_or-take, length-drop, length-take}

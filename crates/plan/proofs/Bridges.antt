@@ -1,15 +1,12 @@
 -- Two ways to tell the step of a transmission that agree give one judgement.
-use Rattle.std.proofs.Common.{◌≡◌, ℕ, zero, suc, ◌+◌, ◌-◌, ◌<◌, ◌≤◌, Bool, true, false, cond, ◌&&◌, eqb, leb, List, [], ◌∷◌, length, get_or, sum, sym, refl, ap, ◌∙◌, ⊎_elim, arith}
+use Rattle.std.proofs.Common.{◌≡◌, ℕ, zero, suc, ◌+◌, ◌-◌, ◌<◌, ◌≤◌, Bool, true, false, cond, ◌&&◌, eqb, leb, List, [], ◌∷◌, length, sum, sym, refl, ap, ⊎_elim, arith}
 use Rattle.interference.specs.declared.transmission.Transmission.{Transmission}
-use Rattle.plan.specs.Approval.{ClearAt, Spaced, conflicts_at, conflicts_with, is_early, is_stray, is_uneven, step_fault, comes_late}
+use Rattle.plan.specs.Approval.{ClearAt, Spaced, conflicts_at, conflicts_with, is_early, step_fault, comes_late}
 use Rattle.plan.specs.Drafts.{step_of, transmission_at}
 use Rattle.plan.specs.Spacing.{gap_of, most_below}
-use Rattle.plan.specs.declared.fault.ApprovalFault.TheVariants.{NotToParent, Conflicting, SlotCount, OutOfOrder}
-use Rattle.routing.specs.Search.{first_below, or_else}
 use Rattle.routing.proofs.Searches.{any_same, first_same}
 use Rattle.std.proofs.lemmas.List.Sums.{sum_by-cons}
 use Rattle.std.proofs.lemmas.Bool.{cases_lt, le-ltb, lt-ltb}
-use Rattle.std.specs.Option.{option_map}
 
 module _ (conflict : Transmission → Transmission → Bool) (ts : List Transmission) (f g : ℕ → ℕ)
     (same : (k : ℕ) → k < length ts → f k ≡ g k) where

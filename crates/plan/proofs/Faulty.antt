@@ -1,5 +1,5 @@
 -- The first fault of the steps of a draft, from what the searches find.
-use Rattle.std.proofs.Common.{◌≡◌, ℕ, ◌<◌, ◌≤◌, Bool, List, length, Some, None, sym, refl, ap, ◌∙◌}
+use Rattle.std.proofs.Common.{◌≡◌, ℕ, Bool, List, length, Some, None, refl}
 use Rattle.interference.specs.declared.transmission.Transmission.{Transmission}
 use Rattle.plan.specs.Approval.{conflicts_at, is_early, is_stray, is_uneven, step_fault}
 use Rattle.plan.specs.Drafts.{transmission_at}

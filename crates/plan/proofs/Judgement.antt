@@ -1,5 +1,5 @@
 -- The one outcome of a draft over a sound tree, from a table with the step of each transmission.
-use Rattle.std.proofs.Common.{◌≡◌, ℕ, ◌+◌, ◌<◌, ◌≤◌, Bool, false, List, length, get_or, Some, None, sum, Option, sym, refl, ap, ◌∙◌, arith}
+use Rattle.std.proofs.Common.{◌≡◌, ℕ, ◌+◌, ◌<◌, ◌≤◌, Bool, false, List, length, get_or, None, sum, Option, sym, ap, ◌∙◌, arith}
 use Rattle.interference.specs.declared.transmission.Transmission.{Transmission}
 use Rattle.plan.specs.Approval.{Spaced, approval_fault, step_fault}
 use Rattle.plan.specs.Drafts.{bad_shape, step_of}

@@ -1,11 +1,10 @@
 -- The greatest value below a bound, and the minimum step distance that the widest gap gives.
-use Rattle.std.proofs.Common.{◌≡◌, ℕ, zero, suc, ◌+◌, ◌-◌, ◌<◌, ◌≤◌, max, Bool, true, false, cond, ◌&&◌, ltb, ◌⊎◌, List, length, sym, refl, ap, ◌∙◌, inl, inr, ⊎_elim, add-one, arith}
+use Rattle.std.proofs.Common.{◌≡◌, ℕ, zero, suc, ◌+◌, ◌-◌, ◌<◌, ◌≤◌, max, Bool, true, false, cond, ◌&&◌, ltb, ◌⊎◌, List, length, refl, ap, ◌∙◌, inl, inr, ⊎_elim, add-one, arith}
 use Rattle.interference.specs.declared.transmission.Transmission.{Transmission}
 use Rattle.plan.specs.Approval.{ClearAt, Spaced}
 use Rattle.plan.specs.Drafts.{transmission_at}
 use Rattle.plan.specs.Spacing.{distance_of, gap_of, most_below}
 use Rattle.std.proofs.lemmas.Bool.{both_ways, cases_Bool, cases_eq, cases_lt, lt-ltb}
-use Rattle.std.proofs.lemmas.Bool.Decides.{nat_tests}
 
 module _ (value : ℕ → ℕ) where
   pub most_start : 0 ≡ most_below value 0

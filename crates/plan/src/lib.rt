@@ -1,4 +1,5 @@
 //! Transmission plans: drafts and approved plans.
+#![tactic(auto)]
 
 pub mod approval;
 pub mod approved;

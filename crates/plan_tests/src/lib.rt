@@ -1,4 +1,5 @@
 //! Worked examples of approval, each refusal among them.
+#![tactic(auto)]
 
 #[cfg(test)]
 mod tests {

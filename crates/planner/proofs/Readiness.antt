@@ -1,5 +1,5 @@
 -- The nodes that may transmit: the table of nodes with an unfinished child, and the candidates by number.
-use Rattle.std.proofs.Common.{◌≡◌, ℕ, ◌+◌, ◌-◌, ◌<◌, ◌≤◌, Bool, true, false, cond, not, ◌&&◌, ◌||◌, eqb, ltb, List, [], ◌∷◌, ◌++◌, map, length, get_or, take, set, replicate, Ok, Err, filter, Result, sym, refl, ap, ◌∙◌, ⊎_elim, add-one, arith, MatchResult}
+use Rattle.std.proofs.Common.{◌≡◌, ℕ, ◌+◌, ◌<◌, ◌≤◌, Bool, true, false, cond, not, ◌&&◌, ◌||◌, eqb, ltb, List, [], ◌∷◌, ◌++◌, map, length, get_or, take, set, replicate, Ok, Err, filter, Result, sym, refl, ap, ◌∙◌, ⊎_elim, add-one, arith, MatchResult}
 use Rattle.planner.specs.declared.candidate.Candidate.{Candidate}
 use Rattle.planner.specs.Planner.{candidate_of, deeper, is_awaiting, is_ready}
 use Rattle.queue.specs.Heap.{Heap, Pushed}

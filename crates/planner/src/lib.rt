@@ -1,4 +1,5 @@
 //! The planner: from a routing tree to steps of transmissions that do not conflict.
+#![tactic(auto)]
 
 pub mod candidate;
 pub mod fault;

@@ -1,4 +1,5 @@
 //! Plans of small trees, worked out by hand.
+#![tactic(auto)]
 
 #[cfg(test)]
 mod tests {

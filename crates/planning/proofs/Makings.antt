@@ -1,5 +1,5 @@
 -- A plan that was made is a draft without a fault, and approval holds just its steps.
-use Rattle.std.proofs.Common.{◌≡◌, ℕ, ◌-◌, ◌≤◌, Bool, List, ◌++◌, length, take, drop, Some, None, Ok, sym, refl, ap, ◌∙◌, subst, arith}
+use Rattle.std.proofs.Common.{◌≡◌, ℕ, ◌-◌, ◌≤◌, Bool, List, length, take, drop, Some, None, Ok, sym, ap, ◌∙◌, subst, arith}
 use Rattle.interference.specs.declared.transmission.Transmission.{Transmission}
 use Rattle.plan.specs.Approval.{Spaced, approval_fault}
 use Rattle.plan.specs.Drafts.{step_of}

@@ -1,4 +1,6 @@
 //! From a routing tree to its approved plan in one call.
+#![tactic(auto)]
+
 ghost use Rattle.std.specs.Prelude.{◌≡◌, None};
 ghost use Rattle.plan.specs.Plans.{plan_of};
 ghost use Rattle.planning.specs.Always.{PlanApproved};

@@ -1,4 +1,6 @@
 // Two kinds of element that a queue holds, and the order in which they come out.
+#![tactic(auto)]
+
 ghost use Rattle.queue_tests.specs.Ranks.{sooner, deeper};
 ghost use Rattle.std.proofs.Common.{rules};
 

@@ -1,4 +1,3 @@
-use Rattle.std.proofs.Common.{◌≤◌}
 use Rattle.plan.specs.Plans.{plan_of}
 use Rattle.planner.proofs.Used.{steps_within, used_within}
 use Rattle.planning.proofs.Law.{always}

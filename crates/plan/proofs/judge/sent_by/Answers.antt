@@ -1,4 +1,4 @@
-use Rattle.std.proofs.Common.{eqb, sym, ap, ◌∙◌, arith}
+use Rattle.std.proofs.Common.{eqb, ap, ◌∙◌, arith}
 use Rattle.plan.specs.Approval.{sent_by}
 use Rattle.plan.proofs.judge.sent_by.Goals as goal
 use Rattle.plan.proofs.judge.sent_by.Goals.{then-t-node, else-t-node}

@@ -1,4 +1,4 @@
-use Rattle.std.proofs.Common.{◌≡◌, ◌+◌, ◌<◌, ◌≤◌, length, get_or, take, sum, refl, ap, ◌∙◌, arith}
+use Rattle.std.proofs.Common.{◌≡◌, ◌+◌, take, sum, refl, ap, ◌∙◌, arith}
 use Rattle.plan.proofs.Marks.{stepped_more}
 use Rattle.plan.proofs.shape.step_table.Goals as goal
 use Rattle.std.proofs.lemmas.List.{take_all}

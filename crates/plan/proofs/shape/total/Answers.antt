@@ -1,4 +1,4 @@
-use Rattle.std.proofs.Common.{sum, sym, ap, ◌∙◌, arith}
+use Rattle.std.proofs.Common.{sum, ap, ◌∙◌, arith}
 use Rattle.plan.proofs.shape.total.Goals as goal
 use Rattle.std.proofs.lemmas.List.{take_all}
 use Rattle.std.proofs.lemmas.List.Sums.{sum_by_more}

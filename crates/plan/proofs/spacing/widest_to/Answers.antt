@@ -1,4 +1,4 @@
-use Rattle.std.proofs.Common.{ap, ◌∙◌, arith}
+use Rattle.std.proofs.Common.{◌∙◌, arith}
 use Rattle.plan.proofs.Widest.{most_end, most_start, most_step}
 use Rattle.plan.proofs.spacing.widest_to.Goals as goal
 
