@@ -1,6 +1,7 @@
 //! Day files as text, and back. `dayform pack` reads a text from standard input and writes the day file; `dayform
 //! print` reads a day file and writes its text. Where the input is refused the reason goes to standard error,
 //! nothing is written, and the status is 1.
+#![tactic(auto)]
 
 use anyhow::anyhow;
 use std::env;

@@ -1,5 +1,5 @@
 -- What is written is read back.
-use Rattle.std.proofs.Common.{◌≡◌, ℕ, ◌+◌, ◌*◌, ◌/◌, ◌%◌, ◌<◌, ◌≤◌, List, [], ◌∷◌, Some, Ok, sym, refl, ap, ◌∙◌, mod-eq_of_lt, arith, rules}
+use Rattle.std.proofs.Common.{◌≡◌, ℕ, ◌+◌, ◌*◌, ◌/◌, ◌%◌, ◌<◌, ◌≤◌, List, ◌∷◌, Some, Ok, sym, refl, ap, ◌∙◌, mod-eq_of_lt, arith, rules}
 use native.Mathlib.Nat.{div-div-eq-div-mul}
 use Rattle.dayfile.specs.Reading.{next_of}
 use Rattle.dayfile.specs.declared.record.Record.{Record}

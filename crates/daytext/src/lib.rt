@@ -2,6 +2,7 @@
 //!
 //! `encoder::encode` gives the bytes of a record, `printer::print` its line of text, and `parser::parse` the record
 //! of a line. Reading the bytes and parsing the line give the record back.
+#![tactic(auto)]
 
 pub mod encoder;
 pub mod fault;

@@ -1,4 +1,5 @@
 //! Worked examples of the text form, in a crate of their own, since a crate with tests is proved twice.
+#![tactic(auto)]
 
 #[cfg(test)]
 mod tests {

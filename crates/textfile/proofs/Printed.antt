@@ -5,7 +5,6 @@ use Rattle.std.proofs.lemmas.List.{append-nil, take_at, drop_at, get_or-append-a
 use Rattle.std.proofs.ByRecursion.{All-push}
 use Rattle.std.proofs.lemmas.Bool.Decides.{nat_tests}
 use Rattle.dayfile.specs.declared.record.Record.{Record}
-use Rattle.dayfile.specs.declared.record.Record.TheVariants.{Nodes, Edge, Tree, Query, Release, Close, Run}
 use Rattle.dayfile.specs.Reading.{next_of}
 use Rattle.daytext.specs.Bytes.{bytes_of}
 use Rattle.daytext.specs.declared.keyword.Keyword.{Keyword}
