@@ -1,4 +1,5 @@
 //! A day file on standard input, its listing on standard output, the STOP line last where the listing stops.
+#![tactic(auto)]
 
 use listing::listing::{FILE_LIMIT, Listing, list, stop_line};
 use listing::stop::{Ending, Stop};

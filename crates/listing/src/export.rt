@@ -1,5 +1,5 @@
-// The listing for a controller written in C: a list goes in as a pointer and a length, and what is answered comes back
-// in a struct of numbers.
+// The listing for a controller written in C: what is answered comes back in a struct of numbers. The crate listing_c
+// exports the two calls; a crate is a library or a static library, and not both.
 ghost use Rattle.std.specs.Prelude.{◌≡◌, length};
 ghost use Rattle.listing.specs.Exports.{Written, Reported, stop_text};
 ghost use Rattle.listing.specs.Listings.{listing_of};
@@ -31,8 +31,7 @@ pub struct LineReport {
 }
 
 /// Writes the listing of a day file to the front of the list.
-#[unsafe(no_mangle)]
-pub extern "C" fn sundrixa_list(file: &[u8], out: &mut [u8]) -> ListingReport
+pub fn sundrixa_list(file: &[u8], out: &mut [u8]) -> ListingReport
     ensures listed { Reported (listing_of (length out.old) file.now) out.old out.new result }
     ensures promise { FilePromised file.now }
 {
@@ -58,8 +57,7 @@ pub extern "C" fn sundrixa_list(file: &[u8], out: &mut [u8]) -> ListingReport
 
 /// Writes the STOP line of a listing that stopped, from its numbers: the inner number stands in it where the refusal
 /// is 35.
-#[unsafe(no_mangle)]
-pub extern "C" fn sundrixa_stop_line(
+pub fn sundrixa_stop_line(
     refusal: u64,
     offset: u64,
     inner: u64,

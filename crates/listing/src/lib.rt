@@ -1,4 +1,5 @@
 //! The day listing: a day file in, the lines of its day out.
+#![tactic(auto)]
 
 mod calls;
 mod day;
