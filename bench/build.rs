@@ -1,4 +1,4 @@
-//! With the feature `library`, links the static library that `rt staticlib listing` makes.
+//! With the feature `library`, links the static library that `tools/build liblisting.a` makes.
 
 use std::env;
 use std::path::Path;

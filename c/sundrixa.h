@@ -12,7 +12,7 @@
  *     NO 23 8 1           as NO; refusal 23 adds the number of the query that would be late
  *     STOP 32 13          the listing ends before the file does (a line written by a call of its own)
  *
- * Build: rt staticlib listing && cc -Ic program.c target/staticlib/liblisting.a
+ * Build: tools/build liblisting.a && cc -Ic program.c target/staticlib/liblisting.a
  *
  * Both calls keep no state, allocate nothing, call nothing of yours and always return. They may run in several threads
  * at once as long as nobody else uses the lists lent to them. Stack: about 64 KiB (seen on x86-64, not proved).
