@@ -1,5 +1,6 @@
 //! Day files by the thousand, made by a fixed generator and listed twice: by the product, and by a naive scheduler that is
 //! written apart from it. Every byte of the answers is compared, and counted by how the file ends.
+#![tactic(auto)]
 
 mod comparison;
 mod drawn;

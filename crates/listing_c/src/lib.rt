@@ -1,6 +1,7 @@
 //! The listing for a controller written in C, as a static library: a list goes in as a pointer and a length, and what is
 //! answered comes back in a struct of numbers.
 #![tactic(auto)]
+
 ghost use Rattle.std.specs.Prelude.{length};
 ghost use Rattle.listing.specs.Exports.{Written, Reported, stop_text};
 ghost use Rattle.listing.specs.Listings.{listing_of};

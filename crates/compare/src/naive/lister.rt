@@ -1,9 +1,9 @@
 use crate::ending::{Ending, Stop};
-use crate::naive::scheduler::{Engine, Refusal};
 use crate::naive::page::{Halt, Page, stopped};
-use crate::naive::steps::make_plan;
 use crate::naive::reading::{Unreadable, read};
+use crate::naive::scheduler::{Engine, Refusal};
 use crate::naive::site::Site;
+use crate::naive::steps::make_plan;
 use crate::survey::{Edge, Link};
 use dayfile::record::Record;
 use std::alloc::{AllocError, Global};

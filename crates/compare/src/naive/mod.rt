@@ -1,10 +1,10 @@
 // A scheduler with no cleverness, straight from docs/RULES.md and docs/DAYFILE.md. It shares the type of a record with
 // the product, and nothing else.
 
-pub mod scheduler;
 pub mod lister;
 pub mod page;
-pub mod steps;
 pub mod reading;
+pub mod scheduler;
 pub mod site;
+pub mod steps;
 pub mod table;
