@@ -1,10 +1,9 @@
 -- The worked examples.
-use Prim.Native.Nat.{ℕ, zero, suc, ◌+◌, ◌<◌, ◌≤◌}
+use Prim.Native.Nat.{ℕ, zero, suc, ◌≤◌}
 use native.Mathlib.Omega.{arith}
-use mathlib.Core.Bool.{true, false, false≢true}
+use mathlib.Core.Bool.{false≢true}
 use mathlib.Core.List.{[], ◌∷◌}
-use mathlib.Core.Path.{◌≡◌, refl, sym}
-use lib.ListN.{length}
+use mathlib.Core.Path.{refl, sym}
 use Rattle.examples.specs.Examples.{Planned, Worked, bare, link, to}
 use Rattle.interference.specs.Graph as graph
 use Rattle.plan.specs.Approval.{ClearAt, Spaced}

@@ -1,6 +1,5 @@
 -- The worked examples, one sentence each.
 use Rattle.std.specs.Prelude.{ℕ, Bool, true, false, List, [], ◌∷◌, ◌≡◌, pos, negsuc}
-use Rattle.interference.specs.declared.graph.Edge.{Edge}
 use Rattle.interference.specs.declared.transmission.Transmission.{Transmission}
 use Rattle.interference.specs.Graph.{graph_conflict, list_edge}
 use Rattle.interference.specs.Grid.{cell}

@@ -1,5 +1,6 @@
 //! A short day of an engine over the plan of a small site, played from a script: what staff call, what is answered, and
 //! what runs in each slot.
+#![tactic(auto)]
 
 mod day;
 mod site;
