@@ -1,7 +1,7 @@
 -- Endings of a listing, and the numbers of their faults.
 use Rattle.std.specs.Prelude.{ℕ, Some, None, Option}
 use Rattle.dayfile.specs.Codes.{code_of as read_code}
-use Rattle.interference.specs.Faults.{code_of as modelCode, place_of as modelPlace}
+use Rattle.interference.specs.Faults.{code_of as model_code, place_of as model_place}
 use Rattle.lines.specs.declared.line.TextLine.{TextLine}
 use Rattle.lines.specs.declared.line.TextLine.TheVariants.{Stop as StopLine}
 use Rattle.listing.specs.declared.stop.Ending.{Ending}
@@ -11,16 +11,16 @@ use Rattle.listing.specs.declared.stop.SiteFault.TheVariants.{Graph, Routing}
 use Rattle.listing.specs.declared.stop.Stop.{Stop}
 use Rattle.listing.specs.declared.stop.StopFault.{StopFault}
 use Rattle.listing.specs.declared.stop.StopFault.TheVariants.{TooLong, Unreadable, Order, NoRoom, Unplanned}
-use Rattle.routing.specs.Faults.{code_of as treeCode, place_of as treePlace}
+use Rattle.routing.specs.Faults.{code_of as tree_code, place_of as tree_place}
 
 -- a site's refusal is that of its graph or of its tree, whole
 abbrev pub inner_of : SiteFault → ℕ
-inner_of (Graph f) = modelCode f
-inner_of (Routing f) = treeCode f
+inner_of (Graph f) = model_code f
+inner_of (Routing f) = tree_code f
 
 abbrev pub position_of : SiteFault → Option ℕ
-position_of (Graph f) = modelPlace f
-position_of (Routing f) = treePlace f
+position_of (Graph f) = model_place f
+position_of (Routing f) = tree_place f
 
 abbrev pub code_of : StopFault → ℕ
 code_of TooLong = 36

@@ -57,12 +57,7 @@ pub fn sundrixa_list(file: &[u8], out: &mut [u8]) -> ListingReport
 
 /// Writes the STOP line of a listing that stopped, from its numbers: the inner number stands in it where the refusal
 /// is 35.
-pub fn sundrixa_stop_line(
-    refusal: u64,
-    offset: u64,
-    inner: u64,
-    out: &mut [u8],
-) -> LineReport
+pub fn sundrixa_stop_line(refusal: u64, offset: u64, inner: u64, out: &mut [u8]) -> LineReport
     ensures { Written (stop_text refusal offset inner) out.old out.new result }
 {
     let inner = if refusal == 35 { Some(inner) } else { None };
