@@ -6,6 +6,7 @@
 use anyhow::anyhow;
 use std::env;
 use std::io::{Read, Write};
+use std::process::ExitCode;
 use textfile::packing::pack;
 use textfile::printing::print_file;
 
@@ -59,10 +60,10 @@ fn run(rt: &HostRuntime) -> anyhow::Result<()> {
     Ok(())
 }
 
-fn main(rt: HostRuntime) -> anyhow::Result<()> {
-    let outcome = run(&rt);
-    if let Err(reason) = &outcome {
+fn main(rt: HostRuntime) -> anyhow::Result<ExitCode> {
+    if let Err(reason) = run(&rt) {
         eprintln!(rt; "{reason}")?;
+        return Ok(ExitCode::FAILURE);
     }
-    outcome
+    Ok(ExitCode::SUCCESS)
 }
