@@ -1,5 +1,6 @@
 //! From the survey and the routing tree of a site to its approved transmission plan, in lines that a surveyor can
 //! read. Standard input has the nodes, edge and tree records of a day file.
+#![tactic(auto)]
 
 mod report;
 mod survey;
