@@ -24,8 +24,8 @@ none_all (h ∷ rows) e =
     (parts.0, none_all rows parts.1)
 
 all_none : (rows : List Row) → AllByRecursion Unclosed rows → none_closed rows ≡ true
-all_none [] a = refl
-all_none (h ∷ rows) a = and_from (not (is_closed h.phase)) (none_closed rows) a.0 (all_none rows a.1)
+all_none [] all = refl
+all_none (h ∷ rows) all = and_from (not (is_closed h.phase)) (none_closed rows) all.0 (all_none rows all.1)
 
 -- ---- each phase
 
@@ -106,8 +106,8 @@ none_swept true rows off e = absurd (false≢true (sym off))
 none_swept false rows off e = go rows (none_all rows e)
   where
     go : (rows : List Row) → AllByRecursion Unclosed rows → rows ≡ filter staying rows
-    go [] a = refl
-    go (h ∷ rows) a = rw (unclosed_stays h.phase a.0) (ap (λ l. h ∷ l) (go rows a.1))
+    go [] all = refl
+    go (h ∷ rows) all = rw (unclosed_stays h.phase all.0) (ap (λ l. h ∷ l) (go rows all.1))
 
 quiet_row : (h : Row) (o : Option Row) → better waits h o ≡ None → (waits h ≡ false) × (o ≡ None)
 quiet_row h None e = (go (waits h) e, refl)

@@ -79,8 +79,8 @@ pub first_none : (rows : List Row) → ranked sooner (waiting_of rows) ≡ [] �
 first_none rows empty = go (first_in_rank waits rows) (first_agrees rows)
   where
     go : (o : Option Row) → Agrees o (ranked sooner (waiting_of rows)) → o ≡ None
-    go None a = refl
-    go (Some y) a = let long = ap length (sym empty ∙ a.1) in absurd (omega arith)
+    go None agrees = refl
+    go (Some y) agrees = let long = ap length (sym empty ∙ agrees.1) in absurd (omega arith)
 
 pub none_first : (rows : List Row) → first_in_rank waits rows ≡ None → ranked sooner (waiting_of rows) ≡ []
 none_first rows e = subst (λ o. Agrees o (ranked sooner (waiting_of rows))) e (first_agrees rows)

@@ -45,9 +45,9 @@ module _ (v : View) (good : ∥ Inv v ∥₁) where
       where
         parts : (1 ≤ deadline) × (deadline ≤ period) × (period ≤ 60000)
         parts =
-            let a = and_parts (leb 1 deadline) (leb deadline period && leb period 60000) e in
-            let b = and_parts (leb deadline period) (leb period 60000) a.1 in
-            (leb-true 1 deadline a.0, leb-true deadline period b.0, leb-true period 60000 b.1)
+            let fits = and_parts (leb 1 deadline) (leb deadline period && leb period 60000) e in
+            let b = and_parts (leb deadline period) (leb period 60000) fits.1 in
+            (leb-true 1 deadline fits.0, leb-true deadline period b.0, leb-true period 60000 b.1)
 
         go : (q ∈ v.rows) ⊎ (q ≡ x) → q.deadline ≤ 60000
         go (inl old) = ∥∥₁_elim good le_prop (λ k. let s = k.table.sound q old in let a = s.short in let b = s.small in omega arith)

@@ -1,4 +1,4 @@
-ghost use Rattle.std.specs.Prelude.{◌≡◌, ◌≤◌, Bool, true, not, [], ◌∷◌, ◌++◌, length};
+ghost use Rattle.std.specs.Prelude.{◌≡◌, ◌≤◌, not, [], ◌∷◌, ◌++◌, length};
 ghost use Rattle.engine.specs.Admissions.{Admitted, admit_refusal};
 ghost use Rattle.engine.specs.Tables.{Fair, Kept};
 ghost use Rattle.rules.specs.Rows.{better, booked_row};

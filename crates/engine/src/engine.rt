@@ -1,4 +1,4 @@
-ghost use Rattle.std.specs.Prelude.{◌≡◌, ℕ, ◌+◌, ◌<◌, ◌≤◌, ◌++◌, length};
+ghost use Rattle.std.specs.Prelude.{◌≡◌, ◌+◌, ◌<◌, length};
 ghost use Rattle.engine.specs.Engines.{Opened, PromiseFor, SlotDone, view};
 ghost use Rattle.engine.specs.Meanings.{Waited};
 ghost use Rattle.plan.specs.Plans.{plan_of};

@@ -1,4 +1,4 @@
-ghost use Rattle.std.specs.Prelude.{◌≡◌, ℕ, ◌+◌, ◌*◌, ◌<◌, ◌≤◌, length, IfSome};
+ghost use Rattle.std.specs.Prelude.{◌≡◌, ◌+◌, ◌*◌, ◌<◌, ◌≤◌, length, IfSome};
 ghost use Rattle.engine.specs.Tables.{Fair, with_extra};
 ghost use Rattle.rules.specs.Rows.{before};
 ghost use Rattle.rules.specs.Waits.{against, demand, keeps, load, rounds, wait_of};

@@ -1,7 +1,7 @@
-ghost use Rattle.std.specs.Prelude.{◌≡◌, ℕ, ◌<◌, ◌≤◌, MatchResult};
+ghost use Rattle.std.specs.Prelude.{◌≡◌, ◌<◌, ◌≤◌, MatchResult};
 ghost use Rattle.interference.specs.Grid.{GridMeant, GridRefused, cell_of, grid_conflict, position_at};
 ghost use Rattle.interference.specs.Planes.{grid_swap};
-ghost use Rattle.std.proofs.Common.{rules, arith};
+ghost use Rattle.std.proofs.Common.{rules};
 
 use crate::fault::ModelFault;
 use crate::model::Interference;

@@ -1,5 +1,5 @@
 // What a record of the day makes the engine do, and the line that tells of it.
-ghost use Rattle.std.specs.Prelude.{◌≡◌, ℕ, ◌≤◌, length, Some};
+ghost use Rattle.std.specs.Prelude.{◌≡◌, length, Some};
 ghost use Rattle.dayfile.specs.declared.record.Record.TheVariants.{Close, Query, Release};
 ghost use Rattle.engine.specs.Engines.{view};
 ghost use Rattle.listing.specs.Days.{deadline_of, no_line, query_line, refused_line, slot_room, starting};
@@ -26,10 +26,10 @@ fn no_line(refusal: Refusal, offset: usize) -> TextLine
 }
 
 /// The line of a call that answers nothing where it is accepted.
-fn refused_line(res: Result<(), Refusal>, offset: usize) -> Option<TextLine>
-    ensures { result ≡ refused_line offset res }
+fn refused_line(outcome: Result<(), Refusal>, offset: usize) -> Option<TextLine>
+    ensures { result ≡ refused_line offset outcome }
 {
-    match res {
+    match outcome {
         Ok(()) => None,
         Err(refusal) => Some(no_line(refusal, offset)),
     }

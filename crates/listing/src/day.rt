@@ -1,5 +1,5 @@
 // The records of a day, carried out one after the other on the engine.
-ghost use Rattle.std.specs.Prelude.{◌≡◌, ℕ, ◌≤◌, length};
+ghost use Rattle.std.specs.Prelude.{◌≡◌, ◌≤◌, length};
 ghost use Rattle.engine.specs.Engines.{view};
 ghost use Rattle.listing.specs.Days.{slot_room};
 ghost use Rattle.listing.specs.Listings.{Ends, day_story};

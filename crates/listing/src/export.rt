@@ -1,6 +1,6 @@
 // The listing for a controller written in C: what is answered comes back in a struct of numbers. The crate listing_c
 // exports the two calls; a crate is a library or a static library, and not both.
-ghost use Rattle.std.specs.Prelude.{◌≡◌, length};
+ghost use Rattle.std.specs.Prelude.{length};
 ghost use Rattle.listing.specs.Exports.{Written, Reported, stop_text};
 ghost use Rattle.listing.specs.Listings.{listing_of};
 ghost use Rattle.listing.specs.Promises.{FilePromised};

@@ -1,4 +1,4 @@
-ghost use Rattle.std.specs.Prelude.{◌≡◌, ℕ, ◌-◌, ◌≤◌, length};
+ghost use Rattle.std.specs.Prelude.{◌≡◌, ◌-◌, ◌≤◌, length};
 ghost use Rattle.lines.specs.Text.{bytes_of, lined, placed};
 ghost use Rattle.lines.specs.declared.line.TextLine.TheVariants.{Plan as PlanLine};
 ghost use Rattle.listing.specs.Listings.{Ends, Listed, Writes, day_story, engine_of, listing_of, story_of};

@@ -1,5 +1,5 @@
 // The site that a day file describes: its nodes, edge and tree records, and the plan that they give.
-ghost use Rattle.std.specs.Prelude.{◌≡◌, ℕ, ◌+◌, ◌<◌, ◌≤◌, length, Some, None, MatchResult};
+ghost use Rattle.std.specs.Prelude.{◌≡◌, ◌+◌, ◌<◌, ◌≤◌, length, Some, None, MatchResult};
 ghost use Rattle.listing.specs.Sites.{bare, planned, site_fault, with_edge, with_link};
 ghost use Rattle.listing.specs.Surveys.{NodesRead, Planned, Roomy, SiteRead, site_of};
 ghost use Rattle.plan.specs.Plans.{plan_of};

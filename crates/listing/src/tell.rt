@@ -1,4 +1,3 @@
-ghost use Rattle.std.specs.Prelude.{ℕ, ◌≤◌};
 ghost use Rattle.listing.specs.Turns.{Told};
 
 use crate::stop::StopFault;

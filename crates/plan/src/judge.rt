@@ -1,6 +1,6 @@
-ghost use Rattle.std.specs.Prelude.{◌≡◌, ℕ, ◌<◌, ◌≤◌, length, slice_index};
+ghost use Rattle.std.specs.Prelude.{◌≡◌, ◌<◌, ◌≤◌, length, slice_index};
 ghost use Rattle.plan.specs.Approval.{Judged, comes_late, conflicts_at, conflicts_with, is_early, is_stray, is_uneven, sent_by, step_fault};
-ghost use Rattle.plan.specs.Drafts.{bad_shape, transmission_at};
+ghost use Rattle.plan.specs.Drafts.{transmission_at};
 ghost use Rattle.routing.specs.Search.{first_below};
 
 use crate::draft::Draft;

@@ -1,5 +1,4 @@
-ghost use Rattle.std.specs.Prelude.{◌≡◌, ℕ, ◌<◌, ◌≤◌, ◌&&◌, length, slice_index};
-ghost use Rattle.plan.specs.Approval.{Spaced};
+ghost use Rattle.std.specs.Prelude.{◌≡◌, ◌<◌, ◌≤◌, ◌&&◌, length, slice_index};
 ghost use Rattle.plan.specs.Spacing.{gap_of, most_below};
 
 use interference::model::Interference;

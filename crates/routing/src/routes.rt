@@ -1,4 +1,3 @@
-ghost use Rattle.std.specs.Prelude.{◌≡◌};
 ghost use Rattle.routing.specs.Tree.{TreeRead};
 
 use crate::fault::TreeFault;

@@ -1,4 +1,4 @@
-ghost use Rattle.std.specs.Prelude.{◌≡◌, ℕ, ◌<◌, ◌≤◌, not, length, is_some};
+ghost use Rattle.std.specs.Prelude.{◌≡◌, ◌<◌, not, length, is_some};
 ghost use Rattle.routing.specs.Search.{first_below};
 ghost use Rattle.routing.specs.Tree.{bad_link, hops, link_at, repeated_at};
 ghost use Rattle.std.specs.List.{AllByRecursion};

@@ -153,16 +153,16 @@ module _ (u : Row → Row) (plain : Plain u) (t : List Row) where
   pub map_unique : ((h k : Row) → h ∈ t → k ∈ t → h.number ≡ k.number → h ≡ k) →
       (h k : Row) → h ∈ map u t → k ∈ map u t → h.number ≡ k.number → h ≡ k
   map_unique old h k m n e =
-      let a = from_map u t h m in
+      let origin = from_map u t h m in
       let b = from_map u t k n in
-      let same : a.0.number ≡ b.0.number = sym (plain.number a.0) ∙ ap (λ (x : Row). x.number) (sym a.2) ∙ e ∙ ap (λ (x : Row). x.number) b.2 ∙ plain.number b.0 in
-      a.2 ∙ ap u (old a.0 b.0 a.1 b.1 same) ∙ sym b.2
+      let same : origin.0.number ≡ b.0.number = sym (plain.number origin.0) ∙ ap (λ (x : Row). x.number) (sym origin.2) ∙ e ∙ ap (λ (x : Row). x.number) b.2 ∙ plain.number b.0 in
+      origin.2 ∙ ap u (old origin.0 b.0 origin.1 b.1 same) ∙ sym b.2
 
   pub map_below : (next : ℕ) → ((h : Row) → h ∈ t → h.number < next) → (h : Row) → h ∈ map u t → h.number < next
   map_below next old h m =
-      let a = from_map u t h m in
-      let l = old a.0 a.1 in
-      let e : h.number ≡ a.0.number = ap (λ (x : Row). x.number) a.2 ∙ plain.number a.0 in
+      let origin = from_map u t h m in
+      let l = old origin.0 origin.1 in
+      let e : h.number ≡ origin.0.number = ap (λ (x : Row). x.number) origin.2 ∙ plain.number origin.0 in
       omega arith
 
   map-load : (q : Row) (w : ℕ) → load (map u t) (u q) w ≤ load t q w
@@ -173,6 +173,6 @@ module _ (u : Row → Row) (plain : Plain u) (t : List Row) where
 
   pub map_admitted : (L d : ℕ) → ((q : Row) → q ∈ t → Keeps L d t q) → (q : Row) → q ∈ map u t → Keeps L d (map u t) q
   map_admitted L d old q m =
-      let a = from_map u t q m in
-      subst (Keeps L d (map u t)) (sym a.2)
-      (keeps_less L d t (map u t) a.0 (u a.0) (map-load a.0) (plain.deadline a.0) (old a.0 a.1))
+      let origin = from_map u t q m in
+      subst (Keeps L d (map u t)) (sym origin.2)
+      (keeps_less L d t (map u t) origin.0 (u origin.0) (map-load origin.0) (plain.deadline origin.0) (old origin.0 origin.1))

@@ -144,10 +144,10 @@ module _ (first : ℕ) (part : ℕ → List Transmission) (conflict : Transmissi
       (r : ℕ) × (slice_get (releases_of n past) j ≡ Some r) × InTime v.length v.distance n past r w
   follows n j w (inl u) e = absurd (none_of w (ap (λ z. slice_get z j) (sym u.unstarted) ∙ e))
   follows n j w (inr (b, o)) e =
-      let a = pair_at o.pairs (pend (row_of n v.rows)) j w (ap (λ z. slice_get z j) (sym o.began) ∙ e) in (
-        a.0.release,
-        ap (λ z. slice_get z j) o.released ∙ a.3,
-        subst (λ z. InTime v.length v.distance n past a.0.release z) a.2 (in-time a.0 (o.timely a.0 a.1)),
+      let pair = pair_at o.pairs (pend (row_of n v.rows)) j w (ap (λ z. slice_get z j) (sym o.began) ∙ e) in (
+        pair.0.release,
+        ap (λ z. slice_get z j) o.released ∙ pair.3,
+        subst (λ z. InTime v.length v.distance n past pair.0.release z) pair.2 (in-time pair.0 (o.timely pair.0 pair.1)),
       )
     where
       in-time : (p : Pair) → Timely v.length v.distance n b p → InTime v.length v.distance n past p.release p.found
@@ -259,9 +259,9 @@ same_plan v =
 pub last_plan : (cs : List Call) (v : View) → ((last_view v cs).length ≡ v.length) × ((last_view v cs).distance ≡ v.distance)
 last_plan [] v = (refl, refl)
 last_plan (c ∷ cs) v =
-    let a = last_plan cs (step c v).1 in
+    let rest = last_plan cs (step c v).1 in
     let b = same_plan v c in
-    (a.0 ∙ b.0, a.1 ∙ b.1)
+    (rest.0 ∙ b.0, rest.1 ∙ b.1)
 
 pub promised : Promised
 promised L Δ first part conflict long spread fit calls =

@@ -197,9 +197,9 @@ module _ (first : ℕ) (part : ℕ → List Transmission) (conflict : Transmissi
 
         turns : 1 ≤ per
         turns =
-            let a = and_parts (leb 1 dl) _ f in
-            let b = and_parts (leb dl per) (leb per 60000) a.1 in
-            let x = leb-true 1 dl a.0 in
+            let fits = and_parts (leb 1 dl) _ f in
+            let b = and_parts (leb dl per) (leb per 60000) fits.1 in
+            let x = leb-true 1 dl fits.0 in
             let y = leb-true dl per b.0 in
             omega arith
 

@@ -29,9 +29,9 @@ row_only v k n q h e m b =
 
 booked_sound : (s n p per dl : ℕ) → fair per dl ≡ true → Sound s (booked_row n p per dl)
 booked_sound s n p per dl f =
-    let a = and_parts (leb 1 dl) _ f in
-    let b = and_parts (leb dl per) (leb per 60000) a.1 in
-    let x = leb-true 1 dl a.0 in
+    let fits = and_parts (leb 1 dl) _ f in
+    let b = and_parts (leb dl per) (leb per 60000) fits.1 in
+    let x = leb-true 1 dl fits.0 in
     let y = leb-true dl per b.0 in
     let z = leb-true per 60000 b.1 in
     record { turns = omega arith; small = z; short = y; idle = λ _. refl; reach = zero-le; waited = λ w. absurd (false≢true w) }

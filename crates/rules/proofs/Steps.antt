@@ -86,10 +86,10 @@ module _ (v : View) (P : Call → Answer → View → Type 0) (way : Ways v P) w
           P (Book p per dl) (numbered (book_with o (booked_row v.next p per dl) v)).0 (numbered (book_with o (booked_row v.next p per dl) v)).1
       go (Some r) e = way.refuses (Book p per dl) r
       go None e =
-          let a = or_none (not (fair per dl)) Terms _ e in
-          let b = or_none (ltb 1000000 v.next) Numbers _ a.1 in
+          let fine = or_none (not (fair per dl)) Terms _ e in
+          let b = or_none (ltb 1000000 v.next) Numbers _ fine.1 in
           let c = or_none (leb 32 (length v.rows)) TableFull _ b.1 in
-          way.books p per dl (not-false (fair per dl) a.0) (naming_none _ c.1)
+          way.books p per dl (not-false (fair per dl) fine.0) (naming_none _ c.1)
 
   by_trial : (p per dl : ℕ) → P (Trial p per dl) (step (Trial p per dl) v).0 (step (Trial p per dl) v).1
   by_trial p per dl = go (book_refusal (booked_row v.next p per dl) v)
@@ -114,9 +114,9 @@ module _ (v : View) (P : Call → Answer → View → Type 0) (way : Ways v P) w
       (q : Row) × (o ≡ Some q) × (is_open q.phase ≡ true) × (q.earliest ≤ s) × (waits q ≡ false)
   release_none s None e = let z : ◌≡◌ {A = ℕ} 0 1 = cc in absurd (omega arith)
   release_none s (Some q) e =
-      let a = or_none (not (is_open q.phase)) NotOpen _ e in
-      let b = or_none (ltb s q.earliest) TooEarly _ a.1 in
-      (q, refl, not-false (is_open q.phase) a.0, ltb-false s q.earliest b.0, when_none _ RoundWaits b.1)
+      let fine = or_none (not (is_open q.phase)) NotOpen _ e in
+      let b = or_none (ltb s q.earliest) TooEarly _ fine.1 in
+      (q, refl, not-false (is_open q.phase) fine.0, ltb-false s q.earliest b.0, when_none _ RoundWaits b.1)
 
   by_slot : (room : ℕ) → P (Slot room) (step (Slot room) v).0 (step (Slot room) v).1
   by_slot room = go (slot_refusal room v) (first_in_rank waits v.rows) (first_leads waits v.rows) (may_start v.distance v.last v.slot) refl

@@ -76,11 +76,11 @@ story_kept L Δ n B R S next next' t t' l k (inr (b, o)) =
         timely = o.timely;
         spaced = o.spaced;
         fits = λ q e.
-            let a = k.back q e in
-            let f = o.fits a.0 a.1 in
-            let x = a.2.period in
-            let y = a.2.earliest in
-            record { period = x ∙ f.period; deadline = a.2.deadline ∙ f.deadline; recent = λ r m. let c = f.recent r m in omega arith };
+            let origin = k.back q e in
+            let f = o.fits origin.0 origin.1 in
+            let x = origin.2.period in
+            let y = origin.2.earliest in
+            record { period = x ∙ f.period; deadline = origin.2.deadline ∙ f.deadline; recent = λ r m. let c = f.recent r m in omega arith };
       },
     )
 

@@ -107,9 +107,9 @@ same_true false c e = sym (not-true c e)
 checked : (L d : ℕ) (t : List Row) (r : Row → Bool) (rows : List Row) → check L d t r rows ≡ true → Agree (λ q. not (keeps L d t q)) r rows
 checked L d t r [] e = tt
 checked L d t r (h ∷ rows) e =
-    let a = and_parts (steady d t h) _ e in
-    let b = and_parts (same (not (leb (climb d t h 6 + L) h.deadline)) (r h)) (check L d t r rows) a.1 in
-    let c = and_parts (eqb (demand d t h (climb d t h 6)) (climb d t h 6)) (leb (climb d t h 6) 60000) a.0 in
+    let parts = and_parts (steady d t h) _ e in
+    let b = and_parts (same (not (leb (climb d t h 6 + L) h.deadline)) (r h)) (check L d t r rows) parts.1 in
+    let c = and_parts (eqb (demand d t h (climb d t h 6)) (climb d t h 6)) (leb (climb d t h 6) 60000) parts.0 in
     (is_late L d t h 6 (r h) c.0 c.1 (same_true _ (r h) b.0), checked L d t r rows b.1)
 
 no_late : (L d : ℕ) (t : List Row) → check L d t none t ≡ true → first_late L d t ≡ None
