@@ -1,5 +1,5 @@
 use crate::drawn::file::DayFile;
-use crate::ending::Ending;
+use crate::ending::{Ending, Stop};
 use crate::naive::lister::{Listed, list};
 use crate::naive::page::stop_text;
 use crate::product::{Answer, Lists, ask_product};
@@ -25,12 +25,8 @@ pub struct Comparison {
 
 /// The first place of a list that holds something else than this text and then markers.
 fn first_difference(text: &[u8], list: &[u8]) -> Option<usize> {
-    for (place, byte) in list.iter().enumerate() {
-        if *byte != text.get(place).copied().unwrap_or(MARKER) {
-            return Some(place);
-        }
-    }
-    None
+    list.iter().enumerate().position(|(place, byte)| *byte
+        != text.get(place).copied().unwrap_or(MARKER))
 }
 
 /// Whether a STOP line was written whole, or refused and not begun where it does not fit.
@@ -41,17 +37,17 @@ fn stop_line_agrees(text: &[u8], list: &[u8], written: Option<usize>) -> bool {
     written == Some(text.len()) && first_difference(text, list).is_none()
 }
 
-fn stop_text_of(heap: Global, ending: Ending) -> Result<String, AllocError> {
-    match ending {
-        Ending::Complete => Ok(String::new(heap)),
-        Ending::Stopped(stop) => stop_text(heap, stop),
+fn stop_text_of(heap: Global, stop: Option<Stop>) -> Result<String, AllocError> {
+    match stop {
+        None => Ok(String::new(heap)),
+        Some(stop) => stop_text(heap, stop),
     }
 }
 
 impl Comparison {
     pub fn run(heap: Global, file: &DayFile) -> Result<Comparison, AllocError> {
         let naive = list(heap, file.bytes.as_slice(), file.room)?;
-        let stop = stop_text_of(heap, naive.ending)?;
+        let stop = stop_text_of(heap, naive.stop)?;
         let mut lines = vec![in heap; MARKER; file.room]?;
         let mut long = vec![in heap; MARKER; STOP_ROOM]?;
         let mut short = vec![in heap; MARKER; file.stop_room]?;
@@ -78,13 +74,13 @@ impl Comparison {
     pub fn agrees(&self) -> bool {
         self.differs_at.is_none()
             && self.product.length == self.naive.text.len()
-            && self.product.ending == self.naive.ending
+            && self.product.stop == self.naive.stop
             && self.stop_lines_agree
     }
 
     pub fn print(&self, rt: &HostRuntime, index: u32) -> Result<(), anyhow::Error> {
-        let naive = self.naive.ending;
-        let product = self.product.ending;
+        let naive = Ending(self.naive.stop);
+        let product = Ending(self.product.stop);
         let bytes = self.naive.text.len();
         let length = self.product.length;
         println!(rt;

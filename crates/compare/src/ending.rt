@@ -1,7 +1,8 @@
-// How a listing ends, told in the same way of both schedulers.
+// Where a listing stops, told in the same way of both schedulers.
 use std::fmt;
 
-/// Why a listing stopped: the refusal, the offset of the record being read, and the inner number of refusal 35.
+/// Why a listing stopped: the refusal, the offset of the record being read, and the inner number of refusal 35. Plain
+/// numbers, since the two schedulers have no type of a refusal in common.
 #[derive(Clone, Copy, PartialEq, Eq)]
 pub struct Stop {
     pub refusal: u8,
@@ -9,15 +10,13 @@ pub struct Stop {
     pub inner: Option<u8>,
 }
 
-#[derive(Clone, Copy, PartialEq, Eq)]
-pub enum Ending {
-    Complete,
-    Stopped(Stop),
-}
+/// How a listing ends, for the reader of the program's output.
+#[derive(Clone, Copy)]
+pub struct Ending(pub Option<Stop>);
 
 impl fmt::Display for Ending {
     fn fmt<W: fmt::Write>(&self, f: &mut fmt::Formatter<W>) -> fmt::Result {
-        let Ending::Stopped(stop) = self else {
+        let Some(stop) = self.0 else {
             return write!(f, "complete");
         };
         let refusal = stop.refusal;

@@ -1,5 +1,5 @@
 // All that is asked of the product, turned into the types of this crate.
-use crate::ending::{Ending, Stop};
+use crate::ending::Stop;
 use listing::listing::{list, stop_line};
 
 /// The lists that the product writes into.
@@ -15,7 +15,7 @@ pub struct Lists<'a> {
 #[derive(Clone, Copy)]
 pub struct Answer {
     pub length: usize,
-    pub ending: Ending,
+    pub stop: Option<Stop>,
     pub stop_line: Option<usize>,
     pub short_stop_line: Option<usize>,
 }
@@ -23,17 +23,17 @@ pub struct Answer {
 /// Lists a file by the product, and its STOP line into both lists if it stopped.
 pub fn ask_product(file: &[u8], lists: Lists<'_>) -> Answer {
     let listed = list(file, lists.lines);
-    let listing::stop::Ending::Stopped(stop) = listed.ending else {
+    let Some(stop) = listed.stop else {
         return Answer {
             length: listed.length,
-            ending: Ending::Complete,
+            stop: None,
             stop_line: None,
             short_stop_line: None,
         };
     };
     Answer {
         length: listed.length,
-        ending: Ending::Stopped(Stop {
+        stop: Some(Stop {
             refusal: stop.fault.code(),
             offset: stop.offset,
             inner: stop.fault.inner(),

@@ -1,4 +1,5 @@
-// What a survey of a site says, for the generator and for the naive scheduler.
+// What a survey of a site says, for the generator and for the naive scheduler: types of their own, since the naive
+// scheduler shares nothing with the product but the type of a record.
 
 /// `to` hears `from`.
 #[derive(Clone, Copy)]

@@ -1,6 +1,6 @@
 use crate::comparison::Comparison;
 use crate::drawn::file::DayFile;
-use crate::ending::Ending;
+use crate::ending::Stop;
 use std::alloc::{AllocError, Global};
 use std::fmt;
 
@@ -29,8 +29,8 @@ const KINDS: [Kind; 12] = [
 ];
 
 impl Kind {
-    fn of(ending: Ending) -> Kind {
-        let Ending::Stopped(stop) = ending else {
+    fn of(stop: Option<Stop>) -> Kind {
+        let Some(stop) = stop else {
             return Kind::Complete;
         };
         match stop.inner {
@@ -99,26 +99,24 @@ pub struct Tally {
 }
 
 fn kind_counts(heap: Global) -> Result<Vec<KindCount>, AllocError> {
-    let mut counts = Vec::new(heap);
-    for kind in KINDS.iter() {
-        counts.push(KindCount {
+    KINDS
+        .iter()
+        .map(|kind| KindCount {
             kind: *kind,
             files: 0,
             agree: 0,
-        })?;
-    }
-    Ok(counts)
+        })
+        .collect(heap)
 }
 
 fn line_counts(heap: Global) -> Result<Vec<LineCount>, AllocError> {
-    let mut counts = Vec::new(heap);
-    for front in FRONTS.iter() {
-        counts.push(LineCount {
+    FRONTS
+        .iter()
+        .map(|front| LineCount {
             front: *front,
             lines: 0,
-        })?;
-    }
-    Ok(counts)
+        })
+        .collect(heap)
 }
 
 impl Tally {
@@ -139,10 +137,10 @@ impl Tally {
     }
 
     pub fn note(&mut self, file: &DayFile, comparison: &Comparison) {
-        let agree = if comparison.agrees() { 1 } else { 0 };
+        let agree = u32::from(comparison.agrees());
         self.files = self.files.saturating_add(1);
         self.agree = self.agree.saturating_add(agree);
-        self.note_kind(Kind::of(comparison.naive.ending), agree);
+        self.note_kind(Kind::of(comparison.naive.stop), agree);
         self.note_lines(comparison.naive.text.as_slice());
         self.drawn.add(file.bytes.as_slice());
         self.listed.add(comparison.naive.text.as_slice());
@@ -150,11 +148,9 @@ impl Tally {
     }
 
     fn note_kind(&mut self, kind: Kind, agree: u32) {
-        for count in self.kinds.iter_mut() {
-            if count.kind == kind {
-                count.files = count.files.saturating_add(1);
-                count.agree = count.agree.saturating_add(agree);
-            }
+        if let Some(count) = self.kinds.iter_mut().find(|count| count.kind == kind) {
+            count.files = count.files.saturating_add(1);
+            count.agree = count.agree.saturating_add(agree);
         }
     }
 

@@ -9,3 +9,6 @@ pub mod reader;
 pub mod record;
 #[cfg(test)]
 mod tests;
+
+/// The most bytes that a day file has.
+pub const FILE_LIMIT: usize = 16_384;

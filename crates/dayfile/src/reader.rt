@@ -49,6 +49,7 @@ impl Frame {
         ensures some { 0 < length (framed self) }
         ensures size { length (framed self) ≡ size_of (kind_of (framed self)) }
     {
+        // Each body is taken apart by a `let`: the borrow checker covers no array within a variant's pattern.
         match self {
             Frame::Nodes(body) => {
                 let [count] = body;

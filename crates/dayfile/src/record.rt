@@ -1,6 +1,9 @@
 // What a record says, and why there may be none.
-ghost use Rattle.std.specs.Prelude.{◌≡◌};
-ghost use Rattle.dayfile.specs.Codes.{code_of};
+ghost use Rattle.std.specs.Prelude.{◌≡◌, Some};
+ghost use Rattle.dayfile.specs.Codes.{code_of, read_fault_shown};
+
+use std::error::Error;
+use std::fmt;
 
 /// One record of a day file, its numbers as written: nothing is checked of them here.
 #[derive(Clone, Copy, PartialEq, Eq, Debug)]
@@ -60,3 +63,16 @@ impl ReadFault {
         }
     }
 }
+
+impl fmt::Display for ReadFault {
+    ghost output = { λ x. Some (read_fault_shown x) };
+
+    fn fmt<W: fmt::Write>(&self, f: &mut fmt::Formatter<W>) -> fmt::Result {
+        f.write_str(match self {
+            ReadFault::UnknownKind => "no record begins with this byte",
+            ReadFault::CutShort => "the record is cut short",
+        })
+    }
+}
+
+impl Error for ReadFault {}

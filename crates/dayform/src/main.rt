@@ -3,15 +3,13 @@
 //! nothing is written, and the status is 1.
 #![tactic(auto)]
 
-use anyhow::anyhow;
+use anyhow::{anyhow, ensure};
+use dayfile::FILE_LIMIT;
 use std::env;
 use std::io::{Read, Write};
 use std::process::ExitCode;
 use textfile::packing::pack;
 use textfile::printing::print_file;
-
-/// The most bytes that a day file has.
-const LIMIT: usize = 16_384;
 
 /// What the first argument asks for.
 #[derive(Clone, Copy)]
@@ -21,23 +19,20 @@ enum Form {
 }
 
 fn asked_form(rt: &HostRuntime) -> anyhow::Result<Form> {
-    let mut words = env::args(rt)?.skip(1);
-    if let Some(word) = words.next() {
-        if word.as_str() == "pack" {
-            return Ok(Form::Pack);
-        }
-        if word.as_str() == "print" {
-            return Ok(Form::Print);
-        }
+    let word = env::args(rt)?.nth(1);
+    match word.as_ref().map(|word| word.as_str()) {
+        Some("pack") => Ok(Form::Pack),
+        Some("print") => Ok(Form::Print),
+        _ => Err(anyhow!("usage: dayform pack <TEXT >FILE, or dayform print <FILE >TEXT")),
     }
-    Err(anyhow!("usage: dayform pack <TEXT >FILE, or dayform print <FILE >TEXT"))
 }
 
 /// Refuses a file that is longer than a day file may be.
 fn within_limit(file: &[u8]) -> anyhow::Result<()> {
-    if file.len() > LIMIT {
-        return Err(anyhow!("the day file is longer than 16384 bytes"));
-    }
+    ensure!(
+        file.len() <= FILE_LIMIT,
+        "the day file is longer than {FILE_LIMIT} bytes"
+    );
     Ok(())
 }
 

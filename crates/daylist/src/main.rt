@@ -2,7 +2,7 @@
 #![tactic(auto)]
 
 use listing::listing::{FILE_LIMIT, Listing, list, stop_line};
-use listing::stop::{Ending, Stop};
+use listing::stop::Stop;
 use std::io::{Read, Write};
 
 /// Room for the listing of every file: no record brings about more than five bytes of listing for each of its own.
@@ -31,11 +31,11 @@ fn print_stop(rt: &HostRuntime, stop: Stop) -> anyhow::Result<()> {
 fn run(rt: &HostRuntime) -> anyhow::Result<()> {
     let file = read_file(rt)?;
     let mut out = vec![in rt.alloc(); 0u8; ROOM]?;
-    let Listing { length, ending } = list(&file, &mut out);
+    let Listing { length, stop } = list(&file, &mut out);
     rt.stdout().write_all(&out[0..length])?;
-    match ending {
-        Ending::Complete => Ok(()),
-        Ending::Stopped(stop) => print_stop(rt, stop),
+    match stop {
+        None => Ok(()),
+        Some(stop) => print_stop(rt, stop),
     }
 }
 

@@ -1,5 +1,4 @@
-pub mod Values
-pub mod Counts
-pub mod Written
+pub mod Places
+pub mod Spaced
 pub mod Leads
 pub mod RoundTrip

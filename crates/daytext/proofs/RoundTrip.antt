@@ -1,6 +1,6 @@
 -- What is written is read back.
-use Rattle.std.proofs.Common.{◌≡◌, ℕ, ◌+◌, ◌*◌, ◌/◌, ◌%◌, ◌<◌, ◌≤◌, List, ◌∷◌, Some, Ok, sym, refl, ap, ◌∙◌, mod-eq_of_lt, arith, rules}
-use native.Mathlib.Nat.{div-div-eq-div-mul}
+use Rattle.std.proofs.Common.{◌≡◌, ℕ, ◌+◌, ◌*◌, ◌/◌, ◌%◌, ◌≤◌, List, ◌∷◌, Some, Ok, ap, ◌∙◌, arith, rules}
+use Rattle.std.proofs.lemmas.Nat.{from_le_bytes-to_le_bytes_2, from_le_bytes-to_le_bytes_4}
 use Rattle.dayfile.specs.Reading.{next_of}
 use Rattle.dayfile.specs.declared.record.Record.{Record}
 use Rattle.dayfile.specs.declared.record.Record.TheVariants.{Nodes, Edge, Tree, Query, Release, Close, Run}
@@ -12,20 +12,10 @@ use Rattle.daytext.proofs.Leads.{Small, numbers_back}
 use Rattle.daytext.specs.RoundTrip.{Fits, ReadsBack, ParsesBack, RoundTrip}
 
 two : (n : ℕ) → n ≤ 65535 → n % 256 + n / 256 % 256 * 256 ≡ n
-two n h = omega arith
-
--- the lowest byte and the rest, three times
-steps : (n a b c : ℕ) → n ≤ 4294967295 → a ≡ n / 256 → b ≡ a / 256 → c ≡ b / 256 → n % 256 + a % 256 * 256 + b % 256 * 65536 + c % 256 * 16777216 ≡ n
-steps n a b c h p q r =
-    let n-is : n % 256 + a * 256 ≡ n = omega arith in
-    let a-is : a % 256 + b * 256 ≡ a = omega arith in
-    let b-is : b % 256 + c * 256 ≡ b = omega arith in
-    let small : c < 256 = omega arith in
-    let c-is : c % 256 ≡ c = mod-eq_of_lt small in
-    omega arith
+two n h = from_le_bytes-to_le_bytes_2 n (omega arith)
 
 four : (n : ℕ) → n ≤ 4294967295 → n % 256 + n / 256 % 256 * 256 + n / 65536 % 256 * 65536 + n / 16777216 % 256 * 16777216 ≡ n
-four n h = steps n _ _ _ h refl (sym (div-div-eq-div-mul n 256 256)) (sym (div-div-eq-div-mul n 65536 256))
+four n h = from_le_bytes-to_le_bytes_4 n (omega arith)
 
 module _ (a b : ℕ) (rest : List ℕ) where
   run_bytes : next_of (7 ∷ a ∷ b ∷ rest) ≡ Ok (Run (a + b * 256), rest)

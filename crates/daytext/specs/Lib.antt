@@ -1,6 +1,5 @@
 pub mod Messages
 pub mod Bytes
-pub mod Writing
 pub mod Words
 pub mod Lines
 pub mod RoundTrip

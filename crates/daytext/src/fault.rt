@@ -1,6 +1,9 @@
 // What is wrong with a line.
-ghost use Rattle.std.specs.Prelude.{◌≡◌};
+ghost use Rattle.std.specs.Prelude.{◌≡◌, Some};
 ghost use Rattle.daytext.specs.Messages.{message_of};
+
+use std::error::Error;
+use std::fmt;
 
 /// Why a line of text has no meaning. The first fault from the left is the one that is named.
 #[derive(Clone, Copy, PartialEq, Eq, Debug)]
@@ -19,6 +22,7 @@ pub enum LineFault {
 
 impl LineFault {
     /// The fault in words, for the writer of the line.
+    // Beside `Display`: it cannot fail, as a formatted write can.
     pub fn message(self) -> &'static str
         ensures { result.now ≡ message_of self }
     {
@@ -31,3 +35,13 @@ impl LineFault {
         }
     }
 }
+
+impl fmt::Display for LineFault {
+    ghost output = { λ x. Some (message_of x) };
+
+    fn fmt<W: fmt::Write>(&self, f: &mut fmt::Formatter<W>) -> fmt::Result {
+        f.write_str(self.message())
+    }
+}
+
+impl Error for LineFault {}

@@ -1,6 +1,5 @@
 // The word that a record's line begins with.
 ghost use Rattle.std.specs.Prelude.{◌≡◌};
-ghost use Rattle.std.specs.Str.{bytes_eq};
 ghost use Rattle.daytext.specs.Lines.{keyword_named};
 
 use crate::fault::LineFault;
@@ -17,34 +16,21 @@ pub enum Keyword {
     Run,
 }
 
-// Whether a word is this name.
-fn is(word: &[u8], name: &[u8]) -> bool
-    ensures { result ≡ bytes_eq word.now name.now }
-{
-    word == name
-}
+impl TryFrom<&[u8]> for Keyword {
+    type Error = LineFault;
 
-impl Keyword {
-    /// The keyword that a word names.
-    pub(crate) fn named(word: &[u8]) -> Result<Keyword, LineFault>
-        ensures { result ≡ keyword_named word.now }
-    {
-        if is(word, b"nodes") {
-            Ok(Keyword::Nodes)
-        } else if is(word, b"edge") {
-            Ok(Keyword::Edge)
-        } else if is(word, b"tree") {
-            Ok(Keyword::Tree)
-        } else if is(word, b"query") {
-            Ok(Keyword::Query)
-        } else if is(word, b"release") {
-            Ok(Keyword::Release)
-        } else if is(word, b"close") {
-            Ok(Keyword::Close)
-        } else if is(word, b"run") {
-            Ok(Keyword::Run)
-        } else {
-            Err(LineFault::UnknownWord)
+    ghost try_from_gives = { λ word r. r ≡ keyword_named word.now };
+
+    fn try_from(word: &[u8]) -> Result<Keyword, LineFault> {
+        match word {
+            b"nodes" => Ok(Keyword::Nodes),
+            b"edge" => Ok(Keyword::Edge),
+            b"tree" => Ok(Keyword::Tree),
+            b"query" => Ok(Keyword::Query),
+            b"release" => Ok(Keyword::Release),
+            b"close" => Ok(Keyword::Close),
+            b"run" => Ok(Keyword::Run),
+            _ => Err(LineFault::UnknownWord),
         }
     }
 }

@@ -6,9 +6,9 @@
 
 pub mod encoder;
 pub mod fault;
+mod field;
 mod keyword;
 pub mod parser;
 pub mod printer;
 pub mod theorem;
 mod words;
-mod writing;

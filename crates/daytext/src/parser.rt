@@ -4,87 +4,41 @@ ghost use Rattle.daytext.specs.Lines.{record_after, line_meaning};
 
 use crate::fault::LineFault;
 use crate::keyword::Keyword;
-use crate::words::{end, next_word, number};
+use crate::words::{last, next_word, number};
 use dayfile::record::Record;
-
-// The most that a field of one, two or four bytes holds.
-const BYTE: u32 = 0xff;
-
-const SHORT: u32 = 0xffff;
-
-const LONG: u32 = 0xffff_ffff;
-
-fn nodes(rest: &[u8]) -> Result<Record, LineFault>
-    ensures { result ≡ record_after Keyword.Nodes rest.now }
-{
-    let (count, rest) = number(rest, BYTE)?;
-    end(rest)?;
-    Ok(Record::Nodes { count: count as u8 })
-}
 
 fn edge(rest: &[u8]) -> Result<Record, LineFault>
     ensures { result ≡ record_after Keyword.Edge rest.now }
 {
-    let (from, rest) = number(rest, BYTE)?;
-    let (to, rest) = number(rest, BYTE)?;
-    end(rest)?;
-    Ok(Record::Edge {
-        from: from as u8,
-        to: to as u8,
-    })
+    let (from, rest) = number(rest)?;
+    let to = last(rest)?;
+    Ok(Record::Edge { from, to })
 }
 
+// Of the same form as `query`, but each names the fields of its record: a function for both would name them by place.
 fn tree(rest: &[u8]) -> Result<Record, LineFault>
     ensures { result ≡ record_after Keyword.Tree rest.now }
 {
-    let (child, rest) = number(rest, BYTE)?;
-    let (parent, rest) = number(rest, BYTE)?;
-    let (slots, rest) = number(rest, BYTE)?;
-    end(rest)?;
+    let (child, rest) = number(rest)?;
+    let (parent, rest) = number(rest)?;
+    let slots = last(rest)?;
     Ok(Record::Tree {
-        child: child as u8,
-        parent: parent as u8,
-        slots: slots as u8,
+        child,
+        parent,
+        slots,
     })
 }
 
 fn query(rest: &[u8]) -> Result<Record, LineFault>
     ensures { result ≡ record_after Keyword.Query rest.now }
 {
-    let (priority, rest) = number(rest, BYTE)?;
-    let (period, rest) = number(rest, SHORT)?;
-    let (deadline, rest) = number(rest, SHORT)?;
-    end(rest)?;
+    let (priority, rest) = number(rest)?;
+    let (period, rest) = number(rest)?;
+    let deadline = last(rest)?;
     Ok(Record::Query {
-        priority: priority as u8,
-        period: period as u16,
-        deadline: deadline as u16,
-    })
-}
-
-fn release(rest: &[u8]) -> Result<Record, LineFault>
-    ensures { result ≡ record_after Keyword.Release rest.now }
-{
-    let (number, rest) = number(rest, LONG)?;
-    end(rest)?;
-    Ok(Record::Release { number })
-}
-
-fn close(rest: &[u8]) -> Result<Record, LineFault>
-    ensures { result ≡ record_after Keyword.Close rest.now }
-{
-    let (number, rest) = number(rest, LONG)?;
-    end(rest)?;
-    Ok(Record::Close { number })
-}
-
-fn run(rest: &[u8]) -> Result<Record, LineFault>
-    ensures { result ≡ record_after Keyword.Run rest.now }
-{
-    let (slots, rest) = number(rest, SHORT)?;
-    end(rest)?;
-    Ok(Record::Run {
-        slots: slots as u16,
+        priority,
+        period,
+        deadline,
     })
 }
 
@@ -93,13 +47,17 @@ fn record_after(keyword: Keyword, rest: &[u8]) -> Result<Record, LineFault>
     ensures { result ≡ record_after keyword rest.now }
 {
     match keyword {
-        Keyword::Nodes => nodes(rest),
+        Keyword::Nodes => Ok(Record::Nodes { count: last(rest)? }),
         Keyword::Edge => edge(rest),
         Keyword::Tree => tree(rest),
         Keyword::Query => query(rest),
-        Keyword::Release => release(rest),
-        Keyword::Close => close(rest),
-        Keyword::Run => run(rest),
+        Keyword::Release => Ok(Record::Release {
+            number: last(rest)?,
+        }),
+        Keyword::Close => Ok(Record::Close {
+            number: last(rest)?,
+        }),
+        Keyword::Run => Ok(Record::Run { slots: last(rest)? }),
     }
 }
 
@@ -111,6 +69,6 @@ pub fn parse(line: &[u8]) -> Result<Option<Record>, LineFault>
     if word.is_empty() {
         return Ok(None);
     }
-    let keyword = Keyword::named(word)?;
+    let keyword = Keyword::try_from(word)?;
     Ok(Some(record_after(keyword, rest)?))
 }

@@ -1,59 +1,60 @@
 // A record as a line of text.
-ghost use Rattle.std.specs.Prelude.{◌≡◌, ◌≤◌, ◌++◌, length, drop};
+ghost use Rattle.std.specs.Prelude.{◌≡◌, ◌≤◌, ◌++◌, length};
 ghost use Rattle.daytext.specs.Lines.{line_of, spaced};
 ghost use Rattle.daytext.specs.RoundTrip.{ParsesBack};
-ghost use Rattle.daytext.specs.Writing.{written};
 
-use crate::writing::{put, put_number};
+use arrayvec::ArrayString;
 use dayfile::record::Record;
+use itoa::Buffer;
 
 /// Room for every line: a word of seven letters, and three numbers of ten digits with a space before each.
 pub const LINE_BYTES: usize = 40;
 
-// Writes a word and its numbers, each after a space, to the front of `line`.
-fn put_line(line: &mut [u8], word: &[u8], numbers: &[u32]) -> usize
-    requires room { length line.old ≡ 40 }
+// A word and its numbers, each after a space. No `Display`: a formatted write may fail, and this does not.
+fn line(word: &str, numbers: &[u32]) -> ArrayString<LINE_BYTES>
     requires short { length word.now ≤ 7 }
     requires few { length numbers.now ≤ 3 }
-    ensures size { result ≡ length (word.now ++ spaced numbers.now) }
-    ensures bound { result ≤ 40 }
-    ensures text { line.new ≡ written line.old 0 (word.now ++ spaced numbers.now) }
+    ensures text { result.bytes ≡ word.now ++ spaced numbers.now }
+    ensures bound { length result.bytes ≤ 40 }
 {
-    let mut at = put(line, 0, word);
-    for n in numbers {
-        line[at] = b' ';
-        at = put_number(line, at + 1, *n);
+    let mut line = ArrayString::new();
+    let mut digits = Buffer::new();
+    line.push_str(word);
+    for number in numbers {
+        line.push_str(" ");
+        line.push_str(digits.format(*number));
     }
-    at
+    line
 }
 
-/// Writes the line of a record, without an end of line, to the front of `line`, leaves the rest of `line` as it is,
-/// and answers how many bytes it has. Parsing the line gives the record back.
-pub fn print(record: Record, line: &mut [u8; LINE_BYTES]) -> usize
-    ensures size { result ≡ length (line_of «record») }
-    ensures bound { result ≤ 40 }
-    ensures text { line.new ≡ line_of «record» ++ drop (length (line_of «record»)) line.old }
+/// The line of a record, without an end of line. Parsing the line gives the record back.
+#[tactic(auto, using(crate::proofs::RoundTrip::parses_back))]
+pub fn print(record: Record) -> ArrayString<LINE_BYTES>
+    ensures text { result.bytes ≡ line_of «record» }
+    ensures bound { length result.bytes ≤ 40 }
     ensures parses_back { ParsesBack «record» }
 {
     match record {
-        Record::Nodes { count } => put_line(line, b"nodes", &[count as u32]),
-        Record::Edge { from, to } => put_line(line, b"edge", &[from as u32, to as u32]),
+        Record::Nodes { count } => line("nodes", &[u32::from(count)]),
+        Record::Edge { from, to } => line("edge", &[u32::from(from), u32::from(to)]),
         Record::Tree {
             child,
             parent,
             slots,
-        } => put_line(line, b"tree", &[child as u32, parent as u32, slots as u32]),
+        } => line(
+            "tree",
+            &[u32::from(child), u32::from(parent), u32::from(slots)],
+        ),
         Record::Query {
             priority,
             period,
             deadline,
-        } => put_line(
-            line,
-            b"query",
-            &[priority as u32, period as u32, deadline as u32],
+        } => line(
+            "query",
+            &[u32::from(priority), u32::from(period), u32::from(deadline)],
         ),
-        Record::Release { number } => put_line(line, b"release", &[number]),
-        Record::Close { number } => put_line(line, b"close", &[number]),
-        Record::Run { slots } => put_line(line, b"run", &[slots as u32]),
+        Record::Release { number } => line("release", &[number]),
+        Record::Close { number } => line("close", &[number]),
+        Record::Run { slots } => line("run", &[u32::from(slots)]),
     }
 }

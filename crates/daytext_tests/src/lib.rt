@@ -4,10 +4,11 @@
 #[cfg(test)]
 mod tests {
     use dayfile::record::Record;
-    use daytext::encoder::{RECORD_BYTES, encode};
+    use daytext::encoder::encode;
     use daytext::fault::LineFault;
     use daytext::parser::parse;
-    use daytext::printer::{LINE_BYTES, print};
+    use daytext::printer::print;
+    use std::test::Fail;
 
     // A query whose period has two bytes that differ.
     const QUERY: Record = Record::Query {
@@ -18,20 +19,20 @@ mod tests {
 
     #[test]
     fn encodes(rt: HostRuntime) {
-        let mut bytes = [9; RECORD_BYTES];
-        assert_eq!(rt; encode(QUERY, &mut bytes), 6);
-        assert_eq!(rt; bytes, [4, 5, 0x58, 0x02, 0x2c, 0x01]);
-        assert_eq!(rt; encode(Record::Edge { from: 1, to: 2 }, &mut bytes), 3);
-        assert_eq!(rt; bytes, [2, 1, 2, 0x02, 0x2c, 0x01]);
+        assert_eq!(rt;
+            encode(QUERY).as_slice(),
+            [4, 5, 0x58, 0x02, 0x2c, 0x01].as_slice()
+        );
+        assert_eq!(rt;
+            encode(Record::Edge { from: 1, to: 2 }).as_slice(),
+            [2, 1, 2].as_slice()
+        );
     }
 
     #[test]
     fn prints(rt: HostRuntime) {
-        let mut line = [0; LINE_BYTES];
-        let size = print(QUERY, &mut line);
-        assert_eq!(rt; &line[0..size], b"query 5 600 300".as_slice());
-        let size = print(Record::Close { number: 0 }, &mut line);
-        assert_eq!(rt; &line[0..size], b"close 0".as_slice());
+        assert_eq!(rt; print(QUERY).as_str(), "query 5 600 300");
+        assert_eq!(rt; print(Record::Close { number: 0 }).as_str(), "close 0");
     }
 
     #[test]
@@ -50,7 +51,7 @@ mod tests {
     }
 
     #[test]
-    fn refuses(rt: HostRuntime) {
+    fn refuses(rt: HostRuntime) -> Result<(), Fail> {
         assert_eq!(rt; parse(b"hop 1 0"), Err(LineFault::UnknownWord));
         assert_eq!(rt; parse(b"tree 1 0 # 1"), Err(LineFault::MissingNumber));
         assert_eq!(rt; parse(b"nodes +3"), Err(LineFault::NotANumber));
@@ -58,5 +59,8 @@ mod tests {
         assert_eq!(rt; parse(b"release 4294967296"), Err(LineFault::TooLarge));
         assert_eq!(rt; parse(b"nodes 3 4"), Err(LineFault::TooMuch));
         assert_eq!(rt; LineFault::TooMuch.message(), "too much on the line");
+        let message = format!(in rt.alloc(); "{}", LineFault::TooMuch)?;
+        assert_eq!(rt; message.as_str(), "too much on the line");
+        Ok(())
     }
 }

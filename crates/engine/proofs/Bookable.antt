@@ -1,5 +1,5 @@
 -- What an admitted row says, and what booking it leaves.
-use Rattle.std.proofs.Common.{◌≡◌, ℕ, ◌+◌, ◌<◌, ◌≤◌, Bool, true, false, not, ltb, leb, List, [], ◌∷◌, ◌++◌, length, Some, None, Ok, Err, Option, refl, arith}
+use Rattle.std.proofs.Common.{◌≡◌, ℕ, ◌+◌, ◌<◌, ◌≤◌, Bool, true, false, not, ltb, leb, List, [], ◌∷◌, ◌++◌, length, Some, None, Ok, Option, refl, arith}
 use Rattle.engine.specs.Admissions.{admit_refusal}
 use Rattle.routing.specs.Search.{or_else}
 use Rattle.rules.specs.declared.refusal.Refusal.{Refusal}
@@ -7,9 +7,9 @@ use Rattle.rules.specs.declared.refusal.Refusal.TheVariants.{Terms, Numbers, Tab
 use Rattle.rules.specs.declared.row.Row.{Row}
 use Rattle.rules.specs.Phases.{is_booked}
 use Rattle.rules.specs.Rows.{booked_row, row_of}
-use Rattle.rules.specs.Rules.{View, book, book_refusal, fair, naming, trial, unless_booked, when}
+use Rattle.rules.specs.Rules.{View, book, book_refusal, fair, naming, unless_booked, when}
 use Rattle.rules.specs.Waits.{first_late}
-use Rattle.std.proofs.lemmas.Bool.{eq-eqb, leb-false, ltb-false, ne_eqb}
+use Rattle.std.proofs.lemmas.Bool.{eq-eqb, ltb-false, ne_eqb}
 use Rattle.std.specs.List.{AllByRecursion}
 
 neither : {X : Type 0} (a b : Option X) → or_else a b ≡ None → (a ≡ None) × (b ≡ None)
@@ -27,11 +27,6 @@ module _ (steps distance next : ℕ) (rows : List Row) (x : Row) (none : admit_r
   pub number_left : next ≤ 1000000
   number_left = ltb-false 1000000 next (unless (ltb 1000000 next) Numbers (neither (when (ltb 1000000 next) Numbers) _ past_terms).0)
 
-  pub room_left : length rows < 32
-  room_left =
-      leb-false 32 (length rows)
-      (unless (leb 32 (length rows)) TableFull (neither (when (leb 32 (length rows)) TableFull) _ (neither (when (ltb 1000000 next) Numbers) _ past_terms).1).0)
-
 module _ (v : View) (priority period deadline : ℕ) where
   pub book_done : (k : ℕ) (rows' : List Row) → k ≡ v.next → book_refusal (booked_row v.next priority period deadline) v ≡ None
       → rows' ≡ v.rows ++ booked_row v.next priority period deadline ∷ []
@@ -48,15 +43,6 @@ module _ (v : View) (priority period deadline : ℕ) where
         },
       ) ≡ book priority period deadline v
   book_done k rows' same none e = rw (same, e, none) refl
-
-  pub book_refused : (f : Refusal) → book_refusal (booked_row v.next priority period deadline) v ≡ Some f → (Err f, v) ≡ book priority period deadline v
-  book_refused f refused = rw refused refl
-
-  pub trial_done : (k : ℕ) → k ≡ v.next → book_refusal (booked_row v.next priority period deadline) v ≡ None → (Ok k, v) ≡ trial priority period deadline v
-  trial_done k same none = rw (same, none) refl
-
-  pub trial_refused : (f : Refusal) → book_refusal (booked_row v.next priority period deadline) v ≡ Some f → (Err f, v) ≡ trial priority period deadline v
-  trial_refused f refused = rw refused refl
 
 -- the row entered last is that of its number
 row_last : (rows : List Row) (x : Row) → AllByRecursion (λ h. h.number < x.number) rows → row_of x.number (rows ++ x ∷ []) ≡ Some x

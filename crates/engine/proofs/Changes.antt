@@ -1,54 +1,22 @@
--- The rows in the first places of a list after a call: where a part was lent, and where the row of a number was written.
-use Rattle.std.proofs.Common.{◌≡◌, ℕ, ◌+◌, ◌-◌, ◌<◌, ◌≤◌, Bool, true, false, List, ◌++◌, map, length, take, drop, set, Some, None, Ok, Err, filter, Option, Result, sym, refl, ap, ◌∙◌, subst, arith}
-use native.Mathlib.Nat.{sub-zero}
-use Rattle.engine.specs.declared.rows.RowCall.{RowCall}
-use Rattle.engine.specs.declared.rows.RowCall.TheVariants.{Confirm, Release, Close}
-use Rattle.engine.specs.declared.waiting.Waiting.{Waiting}
-use Rattle.engine.specs.Entries.{entry_of, sooner}
-use Rattle.engine.specs.Rows.{Stands, applied, change_by, refusal_by, row_at, unless_refused}
-use Rattle.engine.proofs.Numbers.{Rising}
-use Rattle.engine.proofs.Places.{map_at, take-set_lt}
-use Rattle.engine.proofs.Tables.{Facts, Held, facts, held_closed, held_confirmed, held_released, held_short}
-use Rattle.queue.proofs.Ranked.{length-placed}
-use Rattle.queue.specs.Ranked.{placed}
+-- The rows of a table after a call: a start, row by row, and the row of a number written at its place.
+use Rattle.std.proofs.Common.{◌≡◌, ℕ, ◌+◌, ◌<◌, ◌≤◌, Bool, true, false, not, List, ◌++◌, map, length, take, drop, set, position, Some, None, Ok, Err, Option, Result, sym, refl, ap, ◌∙◌, subst, arith}
+use Rattle.arrayvec.proofs.ArrayVecLemmas.{items-with_items}
+use Rattle.engine.specs.Rising.{Rising}
+use Rattle.engine.specs.Rows.{ok_unless, unless_refused}
+use Rattle.engine.proofs.Places.{Stands, map_at, row_at, stands}
 use Rattle.rules.specs.declared.phase.Phase.{Phase}
-use Rattle.rules.specs.declared.phase.Phase.TheVariants.{Booked, Ready, Waiting as WaitingSince, Leaving, LeavingWaiting}
 use Rattle.rules.specs.declared.refusal.Refusal.{Refusal}
 use Rattle.rules.specs.declared.refusal.Refusal.TheVariants.{NotBooked}
 use Rattle.rules.specs.declared.row.Row.{Row}
 use Rattle.rules.specs.Phases.{is_booked, started}
-use Rattle.rules.specs.Rows.{at_phase, has_number, row_of, start_row}
-use Rattle.rules.specs.Rules.{unless_booked}
+use Rattle.rules.specs.Rows.{at_phase, close_row, confirm_row, has_number, release_row, row_of, start_row}
+use Rattle.rules.specs.Rules.{unless_booked, when}
 use Rattle.std.proofs.lemmas.List.Edits.{map_over_more}
-use Rattle.std.proofs.lemmas.List.{append-nil, drop_all, get_or_default, get_or-take, length-append, length-map, length-set, length-take-le, take_all, take-append-le, take_at}
+use Rattle.std.proofs.lemmas.List.{append-nil, drop_all, get_or_default, length-map, length-set, take_all}
 use Rattle.std.proofs.lemmas.Bool.{eq-eqb, eqb-true, ne_eqb}
-
--- an answer that is not a refusal, and one that is
-pub accepted : {X : Type 0} (o : Option Refusal) (x before after : X)
-    → ◌≡◌ {A = Result (Unit {0}) Refusal × X} (Ok tt, x) (unless_refused o before after) → (o ≡ None) × (x ≡ after)
-accepted None x before after e = (refl, ap (λ p. p.1) e)
-accepted (Some r) x before after e =
-    let answer : ◌≡◌ {A = Result (Unit {0}) Refusal} (Ok tt) (Err r) = ap (λ p. p.0) e in
-    let z : ◌≡◌ {A = ℕ} 0 1 = cc in
-    absurd (omega arith)
-
-pub refused : {X : Type 0} (o : Option Refusal) (r : Refusal) (x before after : X)
-    → ◌≡◌ {A = Result (Unit {0}) Refusal × X} (Err r, x) (unless_refused o before after) → o ≡ Some r
-refused None r x before after e =
-    let answer : ◌≡◌ {A = Result (Unit {0}) Refusal} (Err r) (Ok tt) = ap (λ p. p.0) e in
-    let z : ◌≡◌ {A = ℕ} 0 1 = cc in
-    absurd (omega arith)
-refused (Some q) r x before after e =
-    let answer : ◌≡◌ {A = Result (Unit {0}) Refusal} (Err r) (Err q) = ap (λ p. p.0) e in
-    cc
-
-pub done : {X : Type 0} (o : Option Refusal) (x before after : X) → o ≡ None → x ≡ after
-    → ◌≡◌ {A = Result (Unit {0}) Refusal × X} (Ok tt, x) (unless_refused o before after)
-done o x before after none e = rw (none, e) refl
-
-pub denied : {X : Type 0} (o : Option Refusal) (r : Refusal) (before after : X) → o ≡ Some r
-    → ◌≡◌ {A = Result (Unit {0}) Refusal × X} (Err r, before) (unless_refused o before after)
-denied o r before after some = rw some refl
+use Rattle.std.specs.List.{refill}
+use Rattle.std.specs.Option.{ok_or}
+use Rattle.std.specs.Result.{IsOk, MatchResult}
 
 -- ---- a start, row by row
 
@@ -74,161 +42,90 @@ starts_all n old rows i past was =
     was ∙ ap (λ l. map (start_row n) (take i old) ++ l) (drop_all i old past) ∙ append-nil (map (start_row n) (take i old))
     ∙ ap (map (start_row n)) (take_all i old past)
 
--- ---- a part that was lent
+-- ---- the row of a number, changed at its place by a call that may be refused
 
-module _ (kept count : ℕ) (part rest rows : List Row) (p : Row → Bool) (short : kept ≤ length part)
-    (front : take kept part ≡ filter p (take (count - 0) rows)) where
-  pub kept_part : take kept (part ++ rest) ≡ filter p (take count rows)
-  kept_part = take-append-le kept part rest short ∙ front ∙ ap (λ n. filter p (take n rows)) (sub-zero count)
+-- rows written through the slice that was lent of them
+pub rows_back : (rows after : List Row) → length after ≡ length rows → refill (length rows) rows after ≡ after
+rows_back rows after long = items-with_items (record { items = rows }) after long
 
-  pub kept_facts : {closing : Bool} (queue : List Waiting) → kept ≤ 32 → Held closing (filter p (take count rows)) queue
-      → Facts closing kept (part ++ rest) queue
-  kept_facts queue small h = facts kept (part ++ rest) (simp length-append (omega arith)) queue (filter p (take count rows)) small kept_part h
+pub mapped_back : (u : Row → Row) (rows lent after : List Row) → lent ≡ rows → after ≡ map u lent → refill (length rows) rows after ≡ map u rows
+mapped_back u rows lent after same each =
+    let all = each ∙ ap (map u) same in
+    rows_back rows after (ap length all ∙ length-map rows u) ∙ all
 
-pub lent_part : (count : ℕ) (rest rows : List Row) → count ≤ length rows → take count (take (count - 0) rows ++ rest) ≡ take count rows
-lent_part count rest rows within =
-    ap (λ n. take count (take n rows ++ rest)) (sub-zero count) ∙ take_at (take count rows) rest count (length-take-le count rows within)
+module _ (refusal : Option Row → Option Refusal) (u : ℕ → Row → Row) (others : (n : ℕ) (h : Row) → has_number n h ≡ false → u n h ≡ h)
+    (n : ℕ) (rows : List Row) where
+  abbrev answer : Result (Unit {0}) Refusal × List Row
+  answer = unless_refused (refusal (row_of n rows)) rows (map (u n) rows)
 
-pub lent_facts : {closing : Bool} (count : ℕ) (rest rows : List Row) (queue : List Waiting) → count ≤ length rows → count ≤ 32
-    → Held closing (take count rows) queue → Facts closing count (take (count - 0) rows ++ rest) queue
-lent_facts count rest rows queue within small h =
-    let long = length-take-le (count - 0) rows (omega arith) in
-    facts count (take (count - 0) rows ++ rest) (simp length-append (omega arith)) queue (take count rows) small (lent_part count rest rows within) h
+  pub lost : (o : Option ℕ) → o ≡ position (has_number n) rows → (f r : Refusal) → Err f ≡ ok_or {T = ℕ} o r → refusal None ≡ Some r → (Err f, rows) ≡ answer
+  lost None none f r e fits = let same : f ≡ r = cc in rw (stands n rows None none, fits, same) refl
+  lost (Some i) none f r e fits = cc
 
-module _ (count : ℕ) (part rest rows : List Row) (u : Row → Row) (within : count ≤ length rows)
-    (each : part ≡ map u (take (count - 0) rows)) where
-  long : length part ≡ count
-  long = ap length (each ∙ ap (λ n. map u (take n rows)) (sub-zero count)) ∙ length-map (take count rows) u ∙ length-take-le count rows within
+  module _ (i : ℕ) (o : Option ℕ) (place : o ≡ position (has_number n) rows) (is : o ≡ Some i) (lent : List Row) (same : lent ≡ rows) where
+    there : Stands n rows (Some i)
+    there = stands n rows (Some i) (sym is ∙ place)
 
-  pub mapped_part : take count (part ++ rest) ≡ map u (take count rows)
-  mapped_part = take_at part rest count long ∙ each ∙ ap (λ n. map u (take n rows)) (sub-zero count)
+    pub row_here : row_of n rows ≡ Some (row_at rows i)
+    row_here = there.2
 
-  pub mapped_facts : {closing : Bool} (queue : List Waiting) → count ≤ 32 → Held closing (map u (take count rows)) queue
-      → Facts closing count (part ++ rest) queue
-  mapped_facts queue small h =
-      let n = long in
-      facts count (part ++ rest) (simp length-append (omega arith)) queue (map u (take count rows)) small mapped_part h
+    by_row : (a : Result Row Refusal) → a ≡ ok_unless (refusal (Some (row_at lent i))) (u (row_at lent i).number (row_at lent i))
+        → a ≡ ok_unless (refusal (row_of n rows)) (u n (row_at rows i))
+    by_row a e =
+        let number : (row_at rows i).number ≡ n = eqb-true (row_at rows i).number n there.1 in
+        subst (λ l. a ≡ ok_unless (refusal (Some (row_at l i))) (u (row_at l i).number (row_at l i))) same e
+        ∙ ap (λ k. ok_unless (refusal (Some (row_at rows i))) (u k (row_at rows i))) number
+        ∙ ap (λ q. ok_unless (refusal q) (u n (row_at rows i))) (sym row_here)
 
--- ---- the row of a number, at its place
+    pub denied : (f : Refusal) → Err f ≡ ok_unless (refusal (Some (row_at lent i))) (u (row_at lent i).number (row_at lent i)) → (Err f, rows) ≡ answer
+    denied f e = go (refusal (row_of n rows)) (by_row (Err f) e)
+      where
+        go : (q : Option Refusal) → Err f ≡ ok_unless q (u n (row_at rows i)) → ◌≡◌ {A = Result (Unit {0}) Refusal × List Row} (Err f, rows) (unless_refused q rows (map (u n) rows))
+        go None e = cc
+        go (Some g) e = let same : f ≡ g = cc in rw same refl
 
-module _ (n count : ℕ) (rows : List Row) (i : ℕ) (stands : Stands n (take (count - 0) rows) (Some i)) (within : count ≤ length rows) where
-  place : Stands n (take count rows) (Some i)
-  place = subst (λ k. Stands n (take k rows) (Some i)) (sub-zero count) stands
+    module _ (x : Row) (e : Ok x ≡ ok_unless (refusal (Some (row_at lent i))) (u (row_at lent i).number (row_at lent i)))
+        (again : List Row) (back : again ≡ rows) (up : Rising rows) where
+      parts : (q : Option Refusal) → Ok x ≡ ok_unless q (u n (row_at rows i)) → (q ≡ None) × (x ≡ u n (row_at rows i))
+      parts None e = (refl, cc)
+      parts (Some f) e = cc
 
-  below : i < count
-  below = let long = length-take-le count rows within in let less = place.0 in omega arith
+      fine : refusal (row_of n rows) ≡ None
+      fine = (parts _ (by_row (Ok x) e)).0
 
-  same : row_at (take count rows) i ≡ row_at rows i
-  same = get_or-take count rows i _ below
+      pub allowed : refusal (Some (row_at rows i)) ≡ None
+      allowed = ap refusal (sym row_here) ∙ fine
 
-  pub row_here : row_of n (take count rows) ≡ Some (row_at rows i)
-  row_here = place.2 ∙ ap Some same
+      pub made : x ≡ u n (row_at rows i)
+      made = (parts _ (by_row (Ok x) e)).1
 
-  pub named_here : has_number n (row_at rows i) ≡ true
-  named_here = ap (has_number n) (sym same) ∙ place.1
+      pub written : refill (length rows) rows (set again i x) ≡ map (u n) rows
+      written =
+          ap (λ l. refill (length rows) rows (set l i x)) back ∙ rows_back rows (set rows i x) (length-set rows i x)
+          ∙ ap (set rows i) made ∙ sym (map_at n (u n) (others n) rows i up there.0 there.1)
 
-  -- the row is written, and no other has its number
-  pub written : (u : Row → Row) (x : Row) → ((h : Row) → has_number n h ≡ false → u h ≡ h) → Rising (take count rows) → x ≡ u (row_at rows i)
-      → take count (set rows i x) ≡ map u (take count rows)
-  written u x others up e =
-      take-set_lt count rows i x below
-      ∙ ap (set (take count rows) i) (e ∙ ap u (sym same))
-      ∙ sym (map_at n u others (take count rows) i up place.0 place.1)
+      pub done : (Ok tt, refill (length rows) rows (set again i x)) ≡ answer
+      done = rw (fine, written) refl
 
--- ---- a booked row
+-- a row that may be withdrawn
+pub withdrawn_row : (o : Option Row) → unless_booked o ≡ None → (q : Row) × (o ≡ Some q) × (is_booked q.phase ≡ true)
+withdrawn_row None e = cc
+withdrawn_row (Some q) e = (q, refl, go (is_booked q.phase) e)
+  where
+    go : (b : Bool) → when (not b) NotBooked ≡ None → b ≡ true
+    go true e = refl
+    go false e = cc
 
-unbooked : (p : Phase) → (p ≡ Booked → ⊥) → is_booked p ≡ false
-unbooked Booked other = absurd (other refl)
-unbooked Ready other = refl
-unbooked (WaitingSince r) other = refl
-unbooked Leaving other = refl
-unbooked (LeavingWaiting r) other = refl
+-- what went into a queue with room
+pub put_in : {E P Q : Type 0} (r : Result (Unit {0}) E) → MatchResult r (λ _. P) (λ _. Q) → (Q → ⊥) → IsOk r × P
+put_in (Ok u) m full = (refl, m)
+put_in (Err e) m full = absurd (full m)
 
-pub refuses_unbooked : (n : ℕ) (rows : List Row) (h : Row) → row_of n rows ≡ Some h → (h.phase ≡ Booked → ⊥) → unless_booked (row_of n rows) ≡ Some NotBooked
-refuses_unbooked n rows h e other = rw (e, unbooked h.phase other) refl
+pub confirm_others : (n : ℕ) (h : Row) → has_number n h ≡ false → confirm_row n h ≡ h
+confirm_others n h e = rw e refl
 
-pub allows_booked : (n : ℕ) (rows : List Row) (h : Row) → row_of n rows ≡ Some h → h.phase ≡ Booked → unless_booked (row_of n rows) ≡ None
-allows_booked n rows h e booked = rw (e, booked) refl
+pub release_others : (slot n : ℕ) (h : Row) → has_number n h ≡ false → release_row slot n h ≡ h
+release_others slot n h e = rw e refl
 
--- ---- confirm, release and close
-
--- a call leaves the rows of other numbers
-changes_others : (call : RowCall) (slot n : ℕ) (h : Row) → has_number n h ≡ false → change_by call slot n h ≡ h
-changes_others Confirm slot n h e = rw e refl
-changes_others Release slot n h e = rw e refl
-changes_others Close slot n h e = rw e refl
-
-released_entry : (slot n : ℕ) (h x : Row) → has_number n h ≡ true → x ≡ change_by Release slot h.number h
-    → ◌≡◌ {A = Waiting} (entry_of h) (record { priority = x.priority; number = n })
-released_entry slot n h x named e =
-    let number : h.number ≡ n = eqb-true h.number n named in
-    let priority : h.priority ≡ x.priority = ap (λ (z : Row). z.priority) (sym e) in
-    λ i. record { priority = priority i; number = number i }
-
-module _ (call : RowCall) (slot n count : ℕ) (rows : List Row) (i : ℕ) (x : Row) (stands : Stands n (take (count - 0) rows) (Some i)) (within : count ≤ length rows) where
-  pub change_refused : (r : Refusal) → ◌≡◌ {A = Result (Unit {0}) Refusal × Row} (Err r, x) (applied call slot (row_at rows i))
-      → refusal_by call slot (row_of n (take count rows)) ≡ Some r
-  change_refused r e = ap (refusal_by call slot) (row_here n count rows i stands within) ∙ refused _ r x _ _ e
-
-  module _ (e : ◌≡◌ {A = Result (Unit {0}) Refusal × Row} (Ok tt, x) (applied call slot (row_at rows i))) {closing : Bool} (queue : List Waiting)
-      (h : Held closing (take count rows) queue) where
-    fine : refusal_by call slot (Some (row_at rows i)) ≡ None
-    fine = (accepted (refusal_by call slot (Some (row_at rows i))) x (row_at rows i) (change_by call slot (row_at rows i).number (row_at rows i)) e).0
-
-    result : x ≡ change_by call slot (row_at rows i).number (row_at rows i)
-    result = (accepted (refusal_by call slot (Some (row_at rows i))) x (row_at rows i) (change_by call slot (row_at rows i).number (row_at rows i)) e).1
-
-    number : (row_at rows i).number ≡ n
-    number = eqb-true (row_at rows i).number n (named_here n count rows i stands within)
-
-    change-written : take count (set rows i x) ≡ map (change_by call slot n) (take count rows)
-    change-written =
-        written n count rows i stands within (change_by call slot n) x (changes_others call slot n) h.rising
-        (result ∙ ap (λ k. change_by call slot k (row_at rows i)) number)
-
-    pub change_done : ◌≡◌ {A = Result (Unit {0}) Refusal × List Row} (Ok tt, take count (set rows i x))
-        (unless_refused (refusal_by call slot (row_of n (take count rows))) (take count rows) (map (change_by call slot n) (take count rows)))
-    change_done = done _ _ _ _ (ap (refusal_by call slot) (row_here n count rows i stands within) ∙ fine) change-written
-
-    change-facts : {closing' : Bool} (after : List Waiting) → count ≤ 32 → Held closing' (map (change_by call slot n) (take count rows)) after
-        → Facts closing' count (set rows i x) after
-    change-facts after small held = facts count (set rows i x) (simp length-set within) after _ small change-written held
-
-    pub confirm_facts : count ≤ 32 → call ≡ Confirm → Facts closing count (set rows i x) queue
-    confirm_facts small is =
-        change-facts queue small
-        (subst (λ c. Held closing (map (change_by c slot n) (take count rows)) queue) (sym is)
-        (held_confirmed (take count rows) queue h n (row_at rows i) (row_here n count rows i stands within)
-        (subst (λ c. refusal_by c slot (Some (row_at rows i)) ≡ None) is fine)))
-
-    pub close_facts : count ≤ 32 → call ≡ Close → Facts true count (set rows i x) queue
-    close_facts small is =
-        change-facts queue small
-        (subst (λ c. Held true (map (change_by c slot n) (take count rows)) queue) (sym is) (held_closed (take count rows) queue h n))
-
--- a release puts the entry of the row into the queue
-module _ (call : RowCall) (slot n count : ℕ) (rows : List Row) (i : ℕ) (x : Row) (stands : Stands n (take (count - 0) rows) (Some i)) (within : count ≤ length rows)
-    (e : ◌≡◌ {A = Result (Unit {0}) Refusal × Row} (Ok tt, x) (applied call slot (row_at rows i))) {closing : Bool} (queue : List Waiting)
-    (h : Held closing (take count rows) queue) (is : call ≡ Release) where
-  release_held : Held closing (map (change_by call slot n) (take count rows)) (placed sooner (record { priority = x.priority; number = n }) queue)
-  release_held =
-      let here : ◌≡◌ {A = Result (Unit {0}) Refusal × Row} (Ok tt, x) (applied Release slot (row_at rows i)) =
-      e ∙ ap (λ c. applied c slot (row_at rows i)) is in
-      let parts = accepted (refusal_by Release slot (Some (row_at rows i))) x (row_at rows i) (change_by Release slot (row_at rows i).number (row_at rows i)) here in
-      subst (λ c. Held closing (map (change_by c slot n) (take count rows)) (placed sooner (record { priority = x.priority; number = n }) queue)) (sym is)
-      (subst (λ (w : Waiting). Held closing (map (change_by Release slot n) (take count rows)) (placed sooner w queue))
-      (released_entry slot n (row_at rows i) x (named_here n count rows i stands within) parts.1)
-      (held_released (take count rows) queue h n slot (row_at rows i) (row_here n count rows i stands within) parts.0))
-
-  pub release_room : length queue < count
-  release_room =
-      let short = held_short _ _ release_held in
-      let more = length-placed sooner (record { priority = x.priority; number = n }) queue in
-      let long = length-map (take count rows) (change_by call slot n) in
-      let whole = length-take-le count rows within in
-      omega arith
-
-  pub release_facts : (after : List Waiting) → count ≤ 32 → after ≡ placed sooner (record { priority = x.priority; number = n }) queue
-      → Facts closing count (set rows i x) after
-  release_facts after small put =
-      change-facts call slot n count rows i x stands within e queue h after small (subst (Held closing _) (sym put) release_held)
+pub close_others : (n : ℕ) (h : Row) → has_number n h ≡ false → close_row n h ≡ h
+close_others n h e = rw e refl

@@ -1,9 +1,10 @@
 -- The entries of the rows that wait, over the changes of a table.
-use Rattle.std.proofs.Common.{◌≡◌, ℕ, ◌≤◌, Bool, true, false, cond, not, ◌&&◌, List, [], ◌∷◌, ◌++◌, map, length, take, Some, None, filter, Option, sym, refl, ap, ◌∙◌, subst, arith}
+use Rattle.std.proofs.Common.{◌≡◌, ℕ, Bool, true, false, cond, not, ◌&&◌, List, [], ◌∷◌, ◌++◌, map, length, Some, None, filter, Option, sym, refl, ap, ◌∙◌, subst, arith}
 use Rattle.engine.specs.declared.waiting.Waiting.{Waiting}
-use Rattle.engine.specs.Entries.{entry_of, queue_of, sooner, waiting_of}
-use Rattle.engine.proofs.Numbers.{Rising, each_row, past_number, rising_unique}
-use Rattle.queue.proofs.Ranked.{length-ranked, placed_first, ranked_in_order, ranked_shuffled, shuffled_placed}
+use Rattle.engine.specs.Entries.{entry_of, sooner, waiting_of}
+use Rattle.engine.specs.Rising.{Rising}
+use Rattle.engine.proofs.Numbers.{each_row, past_number, rising_unique}
+use Rattle.queue.proofs.Ranked.{placed_first, ranked_in_order, ranked_shuffled, shuffled_placed}
 use Rattle.queue.specs.Heap.{First}
 use Rattle.queue.specs.Order.{Order}
 use Rattle.queue.specs.Ranked.{InOrder, placed, ranked}
@@ -17,7 +18,7 @@ use Rattle.rules.proofs.RowsOf.{none_some, row_found, some_row}
 use Rattle.rules.proofs.Steps.{row_of_is}
 use Rattle.std.proofs.lemmas.List.Elements.{filter-append}
 use Rattle.std.proofs.ByRecursion.{All-weaker, all_shuffled}
-use Rattle.std.proofs.lemmas.List.{append-nil, length-take-le}
+use Rattle.std.proofs.lemmas.List.{append-nil}
 use Rattle.std.proofs.lemmas.List.Sorted.{IsPermutation-swap, IsPermutation-sym}
 use Rattle.std.proofs.lemmas.Bool.{eq-eqb, false≢true}
 use Rattle.std.proofs.lemmas.Bool.Decides.{nat_tests}
@@ -42,10 +43,6 @@ placed_swap : (x y : Waiting) (zs : List Waiting) → placed sooner x (placed so
 placed_swap x y zs =
     ranked_shuffled sooner sooner_order (x ∷ y ∷ zs) (y ∷ x ∷ zs)
     (IsPermutation-swap (x ∷ y ∷ zs) (y ∷ x ∷ zs) 0 1 (omega arith) (omega arith) refl)
-
--- the queue holds as many entries as its length says
-pub length_queue : (n : ℕ) (places : List Waiting) → n ≤ length places → length (queue_of n places) ≡ n
-length_queue n places within = length-ranked sooner (take n places) ∙ length-take-le n places within
 
 -- ---- the row that ranks first and the entry that ranks first
 
@@ -81,9 +78,6 @@ first_none rows empty = go (first_in_rank waits rows) (first_agrees rows)
     go : (o : Option Row) → Agrees o (ranked sooner (waiting_of rows)) → o ≡ None
     go None agrees = refl
     go (Some y) agrees = let long = ap length (sym empty ∙ agrees.1) in absurd (omega arith)
-
-pub none_first : (rows : List Row) → first_in_rank waits rows ≡ None → ranked sooner (waiting_of rows) ≡ []
-none_first rows e = subst (λ o. Agrees o (ranked sooner (waiting_of rows))) e (first_agrees rows)
 
 pub first_some : (rows : List Row) (x : Waiting) (rest : List Waiting) → ranked sooner (waiting_of rows) ≡ x ∷ rest
     → (y : Row) × (first_in_rank waits rows ≡ Some y) × (entry_of y ≡ x)

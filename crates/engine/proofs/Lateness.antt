@@ -1,15 +1,17 @@
 -- Who feels a new row, and the late row that ranks first, row by row from the end.
-use Rattle.std.proofs.Common.{◌≡◌, ℕ, ◌+◌, ◌-◌, ◌*◌, ◌<◌, ◌≤◌, Bool, true, false, not, eqb, List, [], ◌∷◌, ◌++◌, length, get_or, drop, Some, None, Option, sym, refl, ap, ◌∙◌, arith}
-use Rattle.engine.specs.Tables.{Kept}
-use Rattle.engine.proofs.Loads.{blank, load_extra}
+use Rattle.std.proofs.Common.{◌≡◌, ℕ, ◌+◌, ◌-◌, ◌*◌, Bool, true, false, not, eqb, List, [], ◌∷◌, ◌++◌, Some, None, Option, fold, reverse, ◌&&◌, sym, refl, ap, ◌∙◌, arith}
+use Rattle.engine.specs.Tables.{Kept, feels, queries_of}
+use Rattle.engine.proofs.Loads.{load_extra}
 use Rattle.routing.proofs.Searches.{first_same}
 use Rattle.rules.specs.declared.row.Row.{Row}
 use Rattle.rules.specs.Rows.{before, better, first_in_rank}
-use Rattle.rules.specs.Waits.{demand, ends_by, keeps, load, wait_of}
-use Rattle.std.proofs.ByRecursion.{All-get_or}
-use Rattle.std.proofs.lemmas.List.{drop_all, drop_more}
+use Rattle.rules.specs.Waits.{demand, ends_by, first_late, keeps, load, wait_of}
+use Rattle.std.proofs.ByRecursion.{All-weaker}
+use Rattle.std.proofs.lemmas.List.{append-nil, reverse-append}
+use Rattle.std.proofs.lemmas.List.Sums.{fold-append}
 use Rattle.std.proofs.lemmas.Bool.Decides.{nat_tests}
 use Rattle.std.specs.List.{AllByRecursion}
+use Rattle.std.specs.Option.{option_to_list}
 
 rank_once : (h x : Row) → before h x ≡ true → before x h ≡ false
 rank_once h x e = grind (arith, nat_tests)
@@ -28,28 +30,41 @@ pub unfelt : (L d : ℕ) (rows : List Row) (x h : Row) → before h x ≡ true �
 unfelt L d rows x h e kept =
     let same = ap (λ o. ends_by o L h.deadline) (wait_unfelt d rows x h e) in sym (ap not (same ∙ kept))
 
-pub kept_at : (L d : ℕ) (rows : List Row) (i : ℕ) → i < length rows → AllByRecursion (Kept L d rows) rows → Kept L d rows (get_or rows i blank)
-kept_at L d rows i h all = All-get_or (Kept L d rows) rows i blank h all
+-- whether a row of the table is late need not be asked where it does not feel the new one
+pub late_same : (L d : ℕ) (rows : List Row) (extra : Option Row) (h : Row) → Kept L d rows h
+    → (feels extra h && not (keeps L d (queries_of rows extra) h)) ≡ not (keeps L d (queries_of rows extra) h)
+late_same L d rows None h kept = rw (append-nil rows, kept) refl
+late_same L d rows (Some x) h kept = go (before h x) refl
+  where
+    go : (b : Bool) → before h x ≡ b → (not b && not (keeps L d (rows ++ x ∷ []) h)) ≡ not (keeps L d (rows ++ x ∷ []) h)
+    go true e = unfelt L d rows x h e kept
+    go false e = refl
 
-module _ (test : Row → Bool) (x : Row) where
-  better_by : (late : Bool) (h : Row) (o : Option Row) → late ≡ test h → better (λ _. late) h o ≡ better test h o
-  better_by late h None e = rw e refl
-  better_by late h (Some y) e = rw e refl
+late_all : (L d : ℕ) (rows : List Row) (extra : Option Row) (ys : List Row) → AllByRecursion (Kept L d rows) ys
+    → AllByRecursion (λ h. (feels extra h && not (keeps L d (queries_of rows extra) h)) ≡ not (keeps L d (queries_of rows extra) h)) ys
+late_all L d rows extra ys kept = All-weaker (Kept L d rows) _ (late_same L d rows extra) ys kept
 
-  pub late_start : (rows : List Row) (late : Bool) → late ≡ test x → better (λ _. late) x None ≡ first_in_rank test (drop (length rows) rows ++ x ∷ [])
-  late_start rows late e =
-      better_by late x None e ∙ ap (λ rest. first_in_rank test (rest ++ x ∷ [])) (sym (drop_all (length rows) rows (omega arith)))
+-- ---- the row that ranks first, from the end
 
-  pub late_more : (rows : List Row) (i : ℕ) (late : Bool) (found : Option Row) → 0 < i → i ≤ length rows
-      → late ≡ test (get_or rows (i - 1) blank) → found ≡ first_in_rank test (drop i rows ++ x ∷ [])
-      → better (λ _. late) (get_or rows (i - 1) blank) found ≡ first_in_rank test (drop (i - 1) rows ++ x ∷ [])
-  late_more rows i late found some h e was =
-      let again : i - 1 + 1 ≡ i = omega arith in
-      let cut : drop (i - 1) rows ≡ get_or rows (i - 1) blank ∷ drop i rows =
-      drop_more rows (i - 1) blank (omega arith) ∙ ap (λ k. get_or rows (i - 1) blank ∷ drop k rows) again in
-      better_by late (get_or rows (i - 1) blank) found e ∙ ap (better test (get_or rows (i - 1) blank)) was
-      ∙ ap (λ rest. first_in_rank test (rest ++ x ∷ [])) (sym cut)
+better_by : (test : Row → Bool) (late : Bool) (h : Row) (o : Option Row) → late ≡ test h → better (λ _. late) h o ≡ better test h o
+better_by test late h None e = rw e refl
+better_by test late h (Some y) e = rw e refl
 
-  pub late_end : (rows : List Row) (i : ℕ) (found : Option Row) → i ≡ 0 → found ≡ first_in_rank test (drop i rows ++ x ∷ [])
-      → found ≡ first_in_rank test (rows ++ x ∷ [])
-  late_end rows i found e was = was ∙ ap (λ k. first_in_rank test (drop k rows ++ x ∷ [])) e
+abbrev pub better_from : (Row → Bool) → Option Row → Row → Option Row
+better_from late found h = better (λ _. late h) h found
+
+first_fold : (test late : Row → Bool) (rows ys : List Row) → AllByRecursion (λ h. late h ≡ test h) rows
+    → fold (better_from late) (first_in_rank test ys) (reverse rows) ≡ first_in_rank test (rows ++ ys)
+first_fold test late [] ys same = refl
+first_fold test late (h ∷ rows) ys same =
+    ap (fold (better_from late) (first_in_rank test ys)) (reverse-append (h ∷ []) rows)
+    ∙ fold-append (better_from late) (first_in_rank test ys) (reverse rows) (h ∷ [])
+    ∙ ap (better (λ _. late h) h) (first_fold test late rows ys same.1)
+    ∙ better_by test (late h) h (first_in_rank test (rows ++ ys)) same.0
+
+pub first_found : (L d : ℕ) (rows : List Row) (extra : Option Row) → AllByRecursion (Kept L d rows) rows
+    → fold (better_from (λ q. feels extra q && not (keeps L d (queries_of rows extra) q)))
+    (first_in_rank (λ q. not (keeps L d (queries_of rows extra) q)) (option_to_list extra)) (reverse rows)
+    ≡ first_late L d (queries_of rows extra)
+first_found L d rows extra kept =
+    first_fold (λ q. not (keeps L d (queries_of rows extra) q)) _ rows (option_to_list extra) (late_all L d rows extra rows kept)

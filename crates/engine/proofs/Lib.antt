@@ -7,7 +7,6 @@ mod Lateness
 mod Loads
 mod Means
 mod Numbers
-mod Opening
 mod Places
 mod Rounds
 pub mod Promises
@@ -15,4 +14,3 @@ mod Safe
 mod Settles
 mod Slots
 mod Tables
-mod Waitings

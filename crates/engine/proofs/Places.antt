@@ -1,16 +1,31 @@
--- The rows in the first places of a list: the place of a number, and a table as the list of its rows.
-use Rattle.std.proofs.Common.{◌≡◌, ℕ, zero, suc, ◌+◌, ◌<◌, ◌≤◌, true, false, List, [], ◌∷◌, map, length, take, set, Some, None, refl, ap, ◌∙◌, add-one, arith}
-use Rattle.engine.specs.Rows.{Stands, row_at}
-use Rattle.engine.proofs.Numbers.{Rising, past_number}
-use Rattle.routing.proofs.Searches.{first_none}
-use Rattle.routing.specs.Search.{first_below}
+-- The place of the row of a number, and a change of that row alone.
+use Rattle.std.proofs.Common.{◌≡◌, ℕ, zero, suc, ◌<◌, Bool, true, false, cond, ltb, List, [], ◌∷◌, map, length, get_or, position, set, Some, None, Option, sym, refl, ap, ◌∙◌, subst, arith}
+use Rattle.engine.specs.Rising.{Rising}
+use Rattle.engine.proofs.Numbers.{past_number}
+use Rattle.rules.specs.declared.phase.Phase.TheVariants.{Booked}
 use Rattle.rules.specs.declared.row.Row.{Row}
 use Rattle.rules.specs.Rows.{has_number, row_of}
 use Rattle.std.proofs.ByRecursion.{All-get_or, All-weaker}
-use Rattle.std.proofs.lemmas.Bool.{eqb-true, ne_eqb}
-use Rattle.std.specs.List.{AllByRecursion}
+use Rattle.std.proofs.lemmas.Bool.{eqb-true, ltb-false, ltb-true, ne_eqb}
+use Rattle.std.proofs.lemmas.List.Sums.{fails_before_first, passes_at_first}
+use Rattle.std.specs.List.{AllByRecursion, find, position_or_len}
 
--- a search by place finds the row of the number
+-- what stands past the end of a table
+abbrev pub blank : Row
+blank = record { number = 0; priority = 0; period = 0; deadline = 0; earliest = 0; phase = Booked }
+
+abbrev pub row_at : List Row → ℕ → Row
+row_at rows i = get_or rows i blank
+
+-- the row of the number stands at the place, and there is none where there is no place
+abbrev pub Stands : ℕ → List Row → Option ℕ → Type 0
+Stands n rows None = row_of n rows ≡ None
+Stands n rows (Some i) = (i < length rows) × (has_number n (row_at rows i) ≡ true) × (row_of n rows ≡ Some (row_at rows i))
+
+pub row_found : (n : ℕ) (rows : List Row) → find (has_number n) rows ≡ row_of n rows
+row_found n [] = refl
+row_found n (h ∷ rows) = ap (cond (has_number n h) (Some h)) (row_found n rows)
+
 row_is_at : (n : ℕ) (rows : List Row) (i : ℕ) → i < length rows → has_number n (row_at rows i) ≡ true
     → ((j : ℕ) → j < i → has_number n (row_at rows j) ≡ false) → row_of n rows ≡ Some (row_at rows i)
 row_is_at n [] i h here before = absurd (omega arith)
@@ -22,27 +37,21 @@ row_missing : (n : ℕ) (rows : List Row) → ((j : ℕ) → j < length rows →
 row_missing n [] none = refl
 row_missing n (r ∷ rows) none = rw (none 0 (omega arith)) (row_missing n rows (λ j less. none (suc j) (omega arith)))
 
-module _ (n : ℕ) (rows : List Row) (i : ℕ) where
-  pub stands_found : i < length rows → has_number n (row_at rows i) ≡ true → first_below (λ j. has_number n (row_at rows j)) i ≡ None → Stands n rows (Some i)
-  stands_found below here none = (below, here, row_is_at n rows i below here (λ j less. first_none (λ j. has_number n (row_at rows j)) i j none less))
+-- a search by place finds the row of the number
+pub stands : (n : ℕ) (rows : List Row) (o : Option ℕ) → o ≡ position (has_number n) rows → Stands n rows o
+stands n rows o e = subst (Stands n rows) (sym e) (go (ltb k (length rows)) refl)
+  where
+    k : ℕ
+    k = position_or_len (has_number n) rows
 
-  pub stands_missing : length rows ≤ i → first_below (λ j. has_number n (row_at rows j)) i ≡ None → Stands n rows None
-  stands_missing past none = row_missing n rows (λ j less. first_none (λ j. has_number n (row_at rows j)) i j none (omega arith))
-
--- ---- rising numbers, by place and by list
-
-pub rising_list : (rows : List Row) → ((k : ℕ) → k + 1 < length rows → (row_at rows k).number < (row_at rows (k + 1)).number) → Rising rows
-rising_list [] up = tt
-rising_list (h ∷ []) up = (tt, tt)
-rising_list (h ∷ q ∷ rows) up =
-    let later = rising_list (q ∷ rows) (λ k l. rw add-one (rw add-one at (up (suc k) (omega arith)))) in
-    let here = up 0 (omega arith) in
-    ((here, All-weaker (λ z. q.number < z.number) (λ z. h.number < z.number) (λ z l. omega arith) rows later.0), later)
-
-pub rising_places : (rows : List Row) → Rising rows → (k : ℕ) → k + 1 < length rows → (row_at rows k).number < (row_at rows (k + 1)).number
-rising_places [] up k l = absurd (omega arith)
-rising_places (h ∷ rows) up zero l = All-get_or (λ z. h.number < z.number) rows 0 _ (omega arith) up.0
-rising_places (h ∷ rows) up (suc k) l = rw add-one (rw add-one at (rising_places rows up.1 k (omega arith)))
+    go : (b : Bool) → ltb k (length rows) ≡ b → Stands n rows (cond b (Some k) None)
+    go true t =
+        let below = ltb-true k (length rows) t in
+        let here = passes_at_first (has_number n) rows blank below in
+        (below, here, row_is_at n rows k below here (λ j less. fails_before_first (has_number n) rows j blank less))
+    go false t =
+        let past = ltb-false k (length rows) t in
+        row_missing n rows (λ j less. fails_before_first (has_number n) rows j blank (omega arith))
 
 -- ---- a change of the row of a number alone
 
@@ -62,11 +71,3 @@ module _ (n : ℕ) (u : Row → Row) (others : (h : Row) → has_number n h ≡ 
       let same = eqb-true (row_at rows i).number n here in
       ap (λ q. q ∷ map u rows) (others h (ne_eqb h.number n (λ e. omega arith)))
       ∙ ap (λ l. h ∷ l) (map_at rows i up.1 (omega arith) here)
-
--- ---- the first places of a list
-
-pub take-set_lt : {X : Type 0} (n : ℕ) (xs : List X) (i : ℕ) (x : X) → i < n → take n (set xs i x) ≡ set (take n xs) i x
-take-set_lt zero xs i x l = absurd (omega arith)
-take-set_lt (suc n) [] i x l = refl
-take-set_lt (suc n) (y ∷ xs) zero x l = refl
-take-set_lt (suc n) (y ∷ xs) (suc i) x l = ap (λ l. y ∷ l) (take-set_lt n xs i x (omega arith))

@@ -1,20 +1,17 @@
 -- A slot: what its start does to the table, to the running rounds and to the lines.
-use Rattle.std.proofs.Common.{◌≡◌, ℕ, ◌+◌, ◌-◌, ◌/◌, ◌<◌, ◌≤◌, Bool, true, false, not, List, [], ◌∷◌, ◌++◌, map, length, get_or, drop, is_some, Some, None, Ok, filter, Option, sym, refl, ap, ◌∙◌, subst, div-lt_iff_lt-mul, arith}
+use Rattle.std.proofs.Common.{◌≡◌, ℕ, ◌+◌, ◌-◌, ◌*◌, ◌/◌, ◌%◌, ◌<◌, ◌≤◌, Bool, true, false, not, List, [], ◌∷◌, length, get_or, is_some, Some, None, filter, Option, sym, refl, ap, ◌∙◌, div-lt_iff_lt-mul, min, arith}
 use native.Mathlib.Bridge.{le_prop}
 use mathlib.Core.Bool.{false≢true}
 use mathlib.Core.Logic.{∥∥₁_elim}
-use Rattle.engine.specs.Engines.{SlotBy}
 use Rattle.engine.specs.Rounds.{Runs}
 use Rattle.engine.specs.Starts.{joined, last_by, started_by, started_rows}
-use Rattle.engine.specs.Views.{Begun}
 use Rattle.engine.proofs.Rounds.{free, runs_all}
 use Rattle.engine.proofs.Safe.{few_lines}
 use Rattle.rules.specs.declared.call.Call.TheVariants.{Slot}
-use Rattle.rules.specs.declared.round.Line.{Line}
 use Rattle.rules.specs.declared.round.Round.{Round}
 use Rattle.rules.specs.declared.row.Row.{Row}
-use Rattle.rules.specs.Rows.{first_in_rank, start_row, staying, waits}
-use Rattle.rules.specs.Rules.{View, last_slot, line_at, lines_now, may_start, most_lines, runs_in, slot, slot_over, slot_refusal, start_any, start_with}
+use Rattle.rules.specs.Rows.{first_in_rank, waits}
+use Rattle.rules.specs.Rules.{View, last_slot, line_at, may_start, most_lines, runs_in, slot_over, slot_refusal, start_any, start_with}
 use Rattle.rules.specs.Runs.{step}
 use Rattle.rules.proofs.Invariant.{Inv}
 use Rattle.rules.proofs.Running.{Running, running_same, running_started}
@@ -22,25 +19,23 @@ use Rattle.rules.proofs.Starts.{may_free}
 use Rattle.std.proofs.ByRecursion.{All-from_get_or, All-get_or}
 use Rattle.std.proofs.lemmas.List.{length-append, length-map}
 use Rattle.std.proofs.lemmas.Bool.{le-ltb, ne_eqb}
+use Rattle.std.proofs.lemmas.Grind.{div_ceil_times}
+use Rattle.std.specs.Int.{div_ceil}
 use Rattle.std.specs.List.{AllByRecursion}
 
 pub none_waits : (o : Option Row) → true ≡ not (is_some o) → o ≡ None
 none_waits None e = refl
 none_waits (Some y) e = absurd (false≢true (sym e))
 
-module _ (rows rows' : List Row) where
-  pub quiet_rows : (o : Option Row) (may : Bool) → true ≡ not (is_some o) → rows' ≡ filter staying rows → (None, rows') ≡ started_rows o may rows
-  quiet_rows None may e swept = ap (λ l. (None, l)) swept
-  quiet_rows (Some y) may e swept = absurd (false≢true (sym e))
-
-  pub held_back : (o : Option Row) → false ≡ not (is_some o) → (None, rows) ≡ started_rows o false rows
-  held_back None e = absurd (false≢true e)
-  held_back (Some y) e = refl
-
-  pub started_first : (r : Option ℕ) → false ≡ not (is_some (first_in_rank waits rows)) → Begun rows rows' r
-      → (r, rows') ≡ started_rows (first_in_rank waits rows) true rows
-  started_first None e begun = absurd (false≢true (e ∙ ap (λ o. not (is_some o)) begun.0))
-  started_first (Some n) e begun = rw (begun.0.1, begun.1) (ap (λ k. (Some k, map (start_row k) rows)) (sym begun.0.2))
+-- a quotient rounded up, in two ways
+pub ceil_same : (x y : ℕ) → 1 ≤ y → div_ceil x y ≡ (x + (y - 1)) / y
+ceil_same x y some =
+    let q = x / y + min 1 (x % y) in
+    let (low, high) = div_ceil_times x y some in
+    let next : (q + 1) * y ≡ q * y + y = omega arith in
+    let above : (x + (y - 1)) / y < q + 1 = (div-lt_iff_lt-mul some).1 (omega arith) in
+    let below : (x + (y - 1)) / y < q → ⊥ = λ less. let past = (div-lt_iff_lt-mul some).0 less in omega arith in
+    omega arith
 
 -- the start, out of its parts
 module _ (v : View) where
@@ -99,10 +94,6 @@ module _ (v : View) where
     fit_now room rs same wide = let few = few_now in let long = ap (λ l. length l) same in omega arith
 
   -- the slot, out of its parts
-  pub wide_by : (room steps distance : ℕ) → steps ≡ v.length → distance ≡ v.distance → (steps + (distance - 1)) / distance ≤ room
-      → most_lines v ≤ room
-  wide_by room steps distance l d wide = rw (sym l, sym d) wide
-
   pub slot_left : (room : ℕ) → (v.slot ≡ last_slot → ⊥) → most_lines v ≤ room → slot_refusal room v ≡ None
   slot_left room early wide = rw (ne_eqb v.slot last_slot early, le-ltb room (most_lines v) wide) refl
 
@@ -123,18 +114,3 @@ module _ (v : View) where
   pub slot_left_by : (room : ℕ) (after w : View) → slot_refusal room v ≡ None → w ≡ start_any v → after ≡ slot_over w
       → after ≡ (step (Slot room) v).1
   slot_left_by room after w none same over = rw none (over ∙ ap slot_over same)
-
-  -- what it writes
-  pub written_count : (started : Option ℕ) (rows' : List Row) (run : List Round) (n : ℕ) → run ≡ joined started v.slot v.running → n ≡ length run
-      → n ≡ length (lines_now (started_by started rows' v))
-  written_count started rows' run n same count = count ∙ ap (λ l. length l) same ∙ sym (length-map (joined started v.slot v.running) (line_at v.slot))
-
-  pub written_lines : (started : Option ℕ) (rows' : List Row) (run : List Round) (n : ℕ) (lines lines' : List Line)
-      → run ≡ joined started v.slot v.running → lines' ≡ map (line_at v.slot) run ++ drop n lines
-      → lines' ≡ lines_now (started_by started rows' v) ++ drop n lines
-  written_lines started rows' run n lines lines' same written = written ∙ rw same refl
-
-  pub slot_done : (room n : ℕ) (lines lines' : List Line) (after : View) (w : View) → slot_refusal room v ≡ None → w ≡ start_any v
-      → n ≡ length (lines_now w) → after ≡ slot_over w → lines' ≡ lines_now w ++ drop n lines → SlotBy (slot room v) after lines lines' (Ok n)
-  slot_done room n lines lines' after w none same count over written =
-      rw none (subst (λ u. SlotBy (Ok (lines_now u), slot_over u) after lines lines' (Ok n)) same (count, over, written ∙ ap (λ k. lines_now w ++ drop k lines) count))

@@ -1,16 +1,14 @@
 -- A table as the list of its rows, with the queue of the rounds that wait: what each call makes of the two.
-use Rattle.std.proofs.Common.{◌≡◌, ℕ, ◌+◌, ◌<◌, ◌≤◌, Bool, true, false, not, ◌||◌, eqb, ltb, List, [], ◌∷◌, ◌++◌, map, length, take, is_some, Some, None, filter, Option, sym, refl, ap, ◌∙◌, subst, arith}
+use Rattle.std.proofs.Common.{◌≡◌, ℕ, ◌<◌, ◌≤◌, Bool, true, false, not, eqb, ltb, List, [], ◌∷◌, ◌++◌, map, length, is_some, Some, None, filter, Option, sym, refl, ap, ◌∙◌, subst, arith}
 use Rattle.engine.specs.declared.table.Table.{Table}
 use Rattle.engine.specs.declared.waiting.Waiting.{Waiting}
-use Rattle.engine.specs.Closings.{none_closed}
-use Rattle.engine.specs.Entries.{entry_of, numbers_of, priorities_of, queue_of, sooner, waiting_of}
-use Rattle.engine.specs.Rows.{row_at}
+use Rattle.engine.specs.Entries.{entry_of, sooner, waiting_of}
+use Rattle.engine.specs.Rising.{Rising}
 use Rattle.engine.specs.Views.{rows_of}
 use Rattle.engine.proofs.Closings.{Noted, noted_confirmed, noted_entered, noted_kept, noted_released, noted_started, swept_noted}
 use Rattle.engine.proofs.Entries.{book_waiting, booked_waits, close_waiting, confirm_waiting, first_none, first_some, release_waiting, start_first, sweep_waiting, withdraw_waiting}
-use Rattle.engine.proofs.Numbers.{Rising, rising_kept, rising_map, rising_push}
-use Rattle.engine.proofs.Places.{rising_list, rising_places}
-use Rattle.queue.proofs.Ranked.{length-ranked}
+use Rattle.engine.proofs.Numbers.{rising_kept, rising_map, rising_push}
+use Rattle.queue.proofs.Ranked.{length-placed, length-ranked}
 use Rattle.queue.specs.Ranked.{placed, ranked}
 use Rattle.rules.specs.declared.refusal.Refusal.{Refusal}
 use Rattle.rules.specs.declared.refusal.Refusal.TheVariants.{NotOpen, TooEarly, RoundWaits}
@@ -20,7 +18,7 @@ use Rattle.rules.specs.Rows.{close_row, confirm_row, first_in_rank, other_than, 
 use Rattle.rules.specs.Rules.{release_refusal, unless_booked, when}
 use Rattle.routing.specs.Search.{or_else}
 use Rattle.std.proofs.lemmas.List.Filters.{length-filter_both}
-use Rattle.std.proofs.lemmas.List.{get_or-take, length-map, length-take-le}
+use Rattle.std.proofs.lemmas.List.{length-map}
 use Rattle.std.proofs.lemmas.Bool.{ne_eqb, not-false}
 use Rattle.std.specs.List.{AllByRecursion}
 
@@ -40,19 +38,6 @@ released_still q slot fine =
     let later = or_none (when (not (is_open q.phase)) NotOpen) (or_else (when (ltb slot q.earliest) TooEarly) (when (waits q) RoundWaits)) fine in
     when_none (waits q) RoundWaits (or_none (when (ltb slot q.earliest) TooEarly) (when (waits q) RoundWaits) later.1).1
 
--- ---- entries by their priorities and numbers
-
-pub same_entries : (xs ys : List Waiting) → priorities_of xs ≡ priorities_of ys → numbers_of xs ≡ numbers_of ys → xs ≡ ys
-same_entries [] [] p n = refl
-same_entries [] (y ∷ ys) p n = let long = ap length p in absurd (omega arith)
-same_entries (x ∷ xs) [] p n = let long = ap length p in absurd (omega arith)
-same_entries (x ∷ xs) (y ∷ ys) p n =
-    let priority : x.priority ≡ y.priority = cc in
-    let number : x.number ≡ y.number = cc in
-    let rest : xs ≡ ys = same_entries xs ys (cc) (cc) in
-    let first : x ≡ y = λ i. record { priority = priority i; number = number i } in
-    cc
-
 -- ---- the facts of a table
 
 -- the numbers of the rows rise, the queue is that of the rows that wait, and closed rows are noted
@@ -61,55 +46,19 @@ pub record Held (closing : Bool) (rows : List Row) (queue : List Waiting) : Type
   pub queued : queue ≡ ranked sooner (waiting_of rows)
   pub noted : Noted closing rows
 
--- the same by place, over the rows in the first places of a list
-abbrev pub Facts : Bool → ℕ → List Row → List Waiting → Type 0
-Facts closing count rows queue = record {
-  within : count ≤ 32;
-  rising : (k : ℕ) → k + 1 < count → (row_at rows k).number < (row_at rows (k + 1)).number;
-  ranks : priorities_of queue ≡ priorities_of (ranked sooner (waiting_of (take count rows)));
-  numbers : numbers_of queue ≡ numbers_of (ranked sooner (waiting_of (take count rows)));
-  noted : (closing || none_closed (take count rows)) ≡ true;
-}
+-- the same, as a table has it
+abbrev pub Facts : Bool → List Row → List Waiting → Type 0
+Facts closing rows queue =
+    record { rising : Rising rows; queued : queue ≡ ranked sooner (waiting_of rows); noted : Noted closing rows }
 
-module _ (count : ℕ) (rows : List Row) (within : count ≤ length rows) where
-  at : (k : ℕ) → k < count → row_at (take count rows) k ≡ row_at rows k
-  at k below = get_or-take count rows k _ below
+-- the facts of rows that are these
+pub facts : {closing : Bool} {rows after : List Row} {queue : List Waiting} → after ≡ rows → Held closing rows queue → Facts closing after queue
+facts {closing} {rows} {after} {queue} e h =
+    let here = subst (λ l. Held closing l queue) (sym e) h in
+    record { rising = here.rising; queued = here.queued; noted = here.noted }
 
-  places_rising : ((k : ℕ) → k + 1 < count → (row_at rows k).number < (row_at rows (k + 1)).number) → Rising (take count rows)
-  places_rising up =
-      rising_list (take count rows) (λ k l.
-      let long = length-take-le count rows within in
-      let here = at k (omega arith) in
-      let next = at (k + 1) (omega arith) in
-      let less = up k (omega arith) in
-      rw (here, next) less)
-
-  rising_first : Rising (take count rows) → (k : ℕ) → k + 1 < count → (row_at rows k).number < (row_at rows (k + 1)).number
-  rising_first up k l =
-      let long = length-take-le count rows within in
-      let here = at k (omega arith) in
-      let next = at (k + 1) (omega arith) in
-      let less = rising_places (take count rows) up k (omega arith) in
-      rw (← here, ← next) less
-
-  pub facts : {closing : Bool} (queue : List Waiting) (table : List Row) → count ≤ 32 → take count rows ≡ table → Held closing table queue
-      → Facts closing count rows queue
-  facts {closing} queue table small e h =
-      let here = subst (λ t. Held closing t queue) (sym e) h in
-      record {
-        within = small;
-        rising = rising_first here.rising;
-        ranks = ap priorities_of here.queued;
-        numbers = ap numbers_of here.queued;
-        noted = here.noted;
-      }
-
-pub table_queued : (t : Table) → queue_of t.waiting.len t.waiting.places ≡ ranked sooner (waiting_of (rows_of t))
-table_queued t = same_entries _ _ t.ranks t.numbers
-
-pub table_held : (t : Table) → t.count ≤ length t.rows → Held t.closing (rows_of t) (queue_of t.waiting.len t.waiting.places)
-table_held t within =
-    record { rising = places_rising t.count t.rows within t.rising; queued = table_queued t; noted = t.noted }
+pub table_held : (t : Table) → Held t.closing (rows_of t) t.waiting
+table_held t = record { rising = t.rising; queued = t.queued; noted = t.noted }
 
 -- no more rounds wait than there are rows
 pub held_short : {closing : Bool} (rows : List Row) (queue : List Waiting) → Held closing rows queue → length queue ≤ length rows
@@ -167,6 +116,14 @@ module _ {closing : Bool} (rows : List Row) (queue : List Waiting) (h : Held clo
         ∙ sym (release_waiting n rows q h.rising e slot (released_still q slot fine));
     noted = noted_released closing rows h.noted slot n;
   }
+
+  -- the queue has room for the round
+  pub room_released : (n slot : ℕ) (q : Row) → row_of n rows ≡ Some q → release_refusal (Some q) slot ≡ None → length queue < length rows
+  room_released n slot q e fine =
+      let short = held_short _ _ (held_released n slot q e fine) in
+      let more = length-placed sooner (entry_of q) queue in
+      let long = length-map rows (release_row slot n) in
+      omega arith
 
 -- the first round of the queue is that of the row that ranks first
 pub queue_first : (rows : List Row) (x : Waiting) (rest : List Waiting) → x ∷ rest ≡ ranked sooner (waiting_of rows)

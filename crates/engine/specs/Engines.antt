@@ -12,8 +12,7 @@ use Rattle.rules.specs.Rules.{View, opened, slot}
 
 abbrev pub view : Engine → View
 view e =
-    view_by e.length e.distance e.slot e.last e.running.len e.running.rounds e.next e.table.count
-    e.table.rows
+    view_by e.length e.distance e.slot e.last e.running.rounds.items e.next e.table.rows.items
 
 -- the one outcome of opening
 abbrev pub Opened : Plan → ℕ → Result Engine Refusal → Type 0

@@ -4,6 +4,7 @@ pub mod Closings
 pub mod Engines
 pub mod Entries
 pub mod Meanings
+pub mod Rising
 pub mod Rounds
 pub mod Rows
 pub mod Starts

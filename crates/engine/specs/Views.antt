@@ -1,11 +1,11 @@
 -- Tables and engines as the rules see them.
-use Rattle.std.specs.Prelude.{◌≡◌, ℕ, List, map, take, Some, None, Option}
+use Rattle.std.specs.Prelude.{◌≡◌, ℕ, List, map, Some, None, Option}
 use Rattle.engine.specs.declared.table.Table.{Table}
 use Rattle.rules.specs.declared.row.Row.{Row}
 use Rattle.rules.specs.Rows.{first_in_rank, start_row, waits}
 
 abbrev pub rows_of : Table → List Row
-rows_of t = take t.count t.rows
+rows_of t = t.rows.items
 
 -- the waiting round that ranks first, if any, was started: its number, and the rows before and after
 abbrev pub Begun : List Row → List Row → Option ℕ → Type 0

@@ -1,13 +1,12 @@
 ghost use Rattle.std.specs.Prelude.{◌≡◌};
-ghost use Rattle.engine.specs.Bookings.{StandsBooked, booked_by, handed_back};
+ghost use Rattle.engine.specs.Bookings.{StandsBooked, back_with, booked_by, handed_back};
 ghost use Rattle.engine.specs.Engines.{view};
 ghost use Rattle.engine.specs.Meanings.{JudgedIn};
 ghost use Rattle.rules.specs.Rules.{book, confirm, trial, withdraw};
 
-use crate::admission::admit;
-use crate::rows::RowCall;
 use crate::state::Engine;
 use crate::trial::{TrialGuard, TrialPlace};
+use crate::waits::Queries;
 use rules::refusal::Refusal;
 
 /// A query that was booked, and is still to be confirmed or withdrawn: it cannot be let go otherwise.
@@ -21,6 +20,19 @@ impl Booking {
         ensures { result ≡ self.now.number }
     {
         self.number
+    }
+
+    /// Lets the booking go where what was called with it was done, and hands it back where that was refused.
+    fn settled(self, outcome: Result<(), Refusal>) -> Result<(), (Refusal, Booking)>
+        ensures { result ≡ back_with self outcome }
+    {
+        match outcome {
+            Ok(()) => {
+                let Booking { number: _ } = self;
+                Ok(())
+            }
+            Err(why) => Err((why, self)),
+        }
     }
 }
 
@@ -36,14 +48,13 @@ impl Engine {
             period,
             deadline,
         };
-        let count = self.table.count;
-        let row = admit(
-            self.length,
-            self.distance,
-            self.next,
-            &self.table.rows[0..count],
-            asked,
-        )?;
+        let queries = Queries {
+            steps: self.length,
+            distance: self.distance,
+            rows: &self.table.rows,
+            extra: None,
+        };
+        let row = queries.admit(self.next, asked)?;
         self.table.enter(row);
         self.next += 1;
         Ok(Booking { number: row.number })
@@ -54,10 +65,14 @@ impl Engine {
         ensures outcome { (result, view self.new) ≡ trial priority period deadline (view self.old) }
         ensures judged { JudgedIn (view self.old) priority period deadline result }
     {
-        let rows = self.table.places();
-        let count = self.table.count;
-        let length = self.length;
-        let distance = self.distance;
+        let table = &self.table;
+        // Field by field, as in `book` and `wait`: the trial place is lent at the same time.
+        let queries = Queries {
+            steps: self.length,
+            distance: self.distance,
+            rows: &table.rows,
+            extra: None,
+        };
         let next = self.next;
         let guard = TrialGuard(&mut self.trial);
         *guard.0 = TrialPlace {
@@ -65,7 +80,7 @@ impl Engine {
             period,
             deadline,
         };
-        let row = admit(length, distance, next, &rows[0..count], *guard.0)?;
+        let row = queries.admit(next, *guard.0)?;
         Ok(row.number)
     }
 
@@ -73,26 +88,15 @@ impl Engine {
     pub fn confirm(&mut self, booking: Booking) -> Result<(), (Refusal, Booking)>
         ensures { (result, view self.new) ≡ handed_back booking (confirm booking.number (view self.old)) }
     {
-        let slot = self.slot;
-        match self.table.change(booking.number, RowCall::Confirm, slot) {
-            Ok(()) => {
-                let Booking { number: _ } = booking;
-                Ok(())
-            }
-            Err(why) => Err((why, booking)),
-        }
+        let outcome = self.table.confirm(booking.number);
+        booking.settled(outcome)
     }
 
     /// Removes the booked query. A refusal hands the booking back.
     pub fn withdraw(&mut self, booking: Booking) -> Result<(), (Refusal, Booking)>
         ensures { (result, view self.new) ≡ handed_back booking (withdraw booking.number (view self.old)) }
     {
-        match self.table.withdraw(booking.number) {
-            Ok(()) => {
-                let Booking { number: _ } = booking;
-                Ok(())
-            }
-            Err(why) => Err((why, booking)),
-        }
+        let outcome = self.table.withdraw(booking.number);
+        booking.settled(outcome)
     }
 }

@@ -1,27 +1,19 @@
-ghost use Rattle.std.specs.Prelude.{◌≡◌, ◌^◌, ◌<◌, true, not, [], ◌∷◌, ◌++◌, map, is_some, None, filter};
-ghost use Rattle.engine.specs.Rows.{change_by, refusal_by, unless_refused};
+ghost use Rattle.std.specs.Prelude.{◌≡◌, ◌^◌, ◌<◌, true, not, [], ◌∷◌, ◌++◌, map, is_some, length, filter, position};
+ghost use Rattle.engine.specs.Rows.{unless_refused};
 ghost use Rattle.engine.specs.Views.{Begun, rows_of};
 ghost use Rattle.rules.specs.Phases.{is_booked};
-ghost use Rattle.rules.specs.Rows.{first_in_rank, other_than, row_of, staying, waits};
-ghost use Rattle.rules.specs.Rules.{unless_booked};
+ghost use Rattle.rules.specs.Rows.{close_row, confirm_row, first_in_rank, has_number, other_than, release_row, row_of, staying, waits};
+ghost use Rattle.rules.specs.Rules.{release_refusal, unless_booked, unless_open};
 ghost use Rattle.std.specs.List.{AllByRecursion};
 
-use crate::rows::{RowCall, Staying, apply, find, keep_rows, start_row, without_row};
+use crate::rows::{closed, confirmed, released, start_row};
 use crate::table::Table;
-use crate::waiting::{Waiting, WaitingRounds};
+use crate::waiting::Waiting;
+use arrayvec::ArrayVec;
+use queue::Queue;
 use rules::phase::Phase;
 use rules::refusal::Refusal;
 use rules::row::Row;
-
-/// What a free place of the table holds.
-const FREE: Row = Row {
-    number: 0,
-    priority: 0,
-    period: 0,
-    deadline: 0,
-    earliest: 0,
-    phase: Phase::Booked,
-};
 
 impl Table {
     /// A table without queries.
@@ -29,50 +21,64 @@ impl Table {
         ensures { rows_of result ≡ [] }
     {
         Table {
-            rows: [FREE; 32],
-            count: 0,
-            waiting: WaitingRounds::new(),
+            rows: ArrayVec::new(),
+            waiting: Queue::new(),
             closing: false,
         }
     }
 
-    /// The places of the table, those past its rows included.
-    pub(crate) fn places(&self) -> [Row; 32]
-        ensures { result ≡ self.now.rows }
+    /// The row of a number.
+    pub(crate) fn row(&self, number: u32) -> Option<Row>
+        ensures { result ≡ row_of number (rows_of self.now) }
     {
-        self.rows
+        self.rows.iter().find(|row| row.number == number).copied()
+    }
+
+    /// The place of the row of a number.
+    fn place(&self, number: u32) -> Option<usize>
+        ensures { result ≡ position (has_number number) (rows_of self.now) }
+    {
+        self.rows.iter().position(|row| row.number == number)
     }
 
     /// Enters a booked row, whose number is above all others.
     pub(crate) fn enter(&mut self, row: Row)
-        requires room { self.old.count < 32 }
+        requires room { length (rows_of self.old) < 32 }
         requires above { AllByRecursion (λ h. h.number < row.number) (rows_of self.old) }
         requires booked { is_booked row.phase ≡ true }
         ensures { rows_of self.new ≡ rows_of self.old ++ row ∷ [] }
     {
-        self.rows[self.count] = row;
-        self.count += 1;
+        self.rows.push(row);
     }
 
-    /// Confirms, releases or closes the query of a number.
-    pub(crate) fn change(&mut self, number: u32, call: RowCall, slot: u64) -> Result<(), Refusal>
-        requires { slot < 2 ^ 62 }
-        ensures { (result, rows_of self.new) ≡ unless_refused (refusal_by call slot (row_of number (rows_of self.old))) (rows_of self.old) (map (change_by call slot number) (rows_of self.old)) }
+    /// Confirms the query of a number.
+    pub(crate) fn confirm(&mut self, number: u32) -> Result<(), Refusal>
+        ensures { (result, rows_of self.new) ≡ unless_refused (unless_booked (row_of number (rows_of self.old))) (rows_of self.old) (map (confirm_row number) (rows_of self.old)) }
     {
-        let Some(i) = find(&self.rows[0..self.count], number) else {
-            return Err(without_row(call));
-        };
-        let mut row = self.rows[i];
-        apply(&mut row, call, slot)?;
+        let i = self.place(number).ok_or(Refusal::NotBooked)?;
+        self.rows[i] = confirmed(self.rows[i])?;
+        Ok(())
+    }
+
+    /// Releases a round of the query of a number.
+    pub(crate) fn release(&mut self, number: u32, slot: u64) -> Result<(), Refusal>
+        requires { slot < 2 ^ 62 }
+        ensures { (result, rows_of self.new) ≡ unless_refused (release_refusal (row_of number (rows_of self.old)) slot) (rows_of self.old) (map (release_row slot number) (rows_of self.old)) }
+    {
+        let i = self.place(number).ok_or(Refusal::NotOpen)?;
+        let row = released(self.rows[i], slot)?;
         self.rows[i] = row;
-        match call {
-            RowCall::Confirm => {}
-            RowCall::Release => self.waiting.put(Waiting {
-                priority: row.priority,
-                number,
-            }),
-            RowCall::Close => self.closing = true,
-        }
+        self.waiting.push(Waiting::of(&row)).unwrap();
+        Ok(())
+    }
+
+    /// Closes the query of a number.
+    pub(crate) fn close(&mut self, number: u32) -> Result<(), Refusal>
+        ensures { (result, rows_of self.new) ≡ unless_refused (unless_open (row_of number (rows_of self.old))) (rows_of self.old) (map (close_row number) (rows_of self.old)) }
+    {
+        let i = self.place(number).ok_or(Refusal::NotOpen)?;
+        self.rows[i] = closed(self.rows[i])?;
+        self.closing = true;
         Ok(())
     }
 
@@ -80,14 +86,11 @@ impl Table {
     pub(crate) fn withdraw(&mut self, number: u32) -> Result<(), Refusal>
         ensures { (result, rows_of self.new) ≡ unless_refused (unless_booked (row_of number (rows_of self.old))) (rows_of self.old) (filter (other_than number) (rows_of self.old)) }
     {
-        let Some(i) = find(&self.rows[0..self.count], number) else {
+        let row = self.row(number);
+        if !row.is_some_and(|row| row.phase == Phase::Booked) {
             return Err(Refusal::NotBooked);
-        };
-        let phase = self.rows[i].phase;
-        let Phase::Booked = phase else {
-            return Err(Refusal::NotBooked);
-        };
-        self.count = keep_rows(&mut self.rows[0..self.count], Staying::OtherThan(number));
+        }
+        self.rows.retain(|row| row.number != number);
         Ok(())
     }
 
@@ -98,9 +101,8 @@ impl Table {
         if !self.closing {
             return;
         }
-        let quiet = self.is_quiet();
-        self.count = keep_rows(&mut self.rows[0..self.count], Staying::NotLeaving);
-        self.closing = !quiet;
+        self.closing = !self.is_quiet();
+        self.rows.retain(|row| row.phase != Phase::Leaving);
     }
 
     /// Whether no round waits.
@@ -114,13 +116,8 @@ impl Table {
     pub(crate) fn start_first(&mut self) -> Option<u32>
         ensures { Begun (rows_of self.old) (rows_of self.new) result }
     {
-        let rows = &mut self.rows[0..self.count];
-        match self.waiting.take_first() {
-            Some(first) => {
-                start_row(rows, first.number);
-                Some(first.number)
-            }
-            None => None,
-        }
+        let first = self.waiting.pop()?;
+        start_row(&mut self.rows, first.number);
+        Some(first.number)
     }
 }

@@ -2,15 +2,13 @@ ghost use Rattle.std.specs.Prelude.{◌≡◌, ◌+◌, ◌<◌, length};
 ghost use Rattle.engine.specs.Engines.{Opened, PromiseFor, SlotDone, view};
 ghost use Rattle.engine.specs.Meanings.{Waited};
 ghost use Rattle.plan.specs.Plans.{plan_of};
-ghost use Rattle.rules.specs.Rules.{close, may_start, release, wait};
+ghost use Rattle.rules.specs.Rules.{close, may_start, most_lines, release, wait};
 
-use crate::rows::RowCall;
 use crate::running::RunningRounds;
-use crate::starts::last_start;
 use crate::state::Engine;
 use crate::table::Table;
-use crate::trial::NOTHING;
-use crate::waits::longest_wait;
+use crate::trial::TrialPlace;
+use crate::waits::Queries;
 use plan::approved::ApprovedPlan;
 use rules::refusal::Refusal;
 use rules::round::Line;
@@ -35,7 +33,7 @@ impl Engine {
             next: 1,
             table: Table::new(),
             running: RunningRounds::new(),
-            trial: NOTHING,
+            trial: TrialPlace::default(),
         })
     }
 
@@ -51,16 +49,14 @@ impl Engine {
     pub fn release(&mut self, number: u32) -> Result<(), Refusal>
         ensures { (result, view self.new) ≡ release number (view self.old) }
     {
-        let slot = self.slot;
-        self.table.change(number, RowCall::Release, slot)
+        self.table.release(number, self.slot)
     }
 
     /// The query is released no more, and leaves the table once no round of it waits.
     pub fn close(&mut self, number: u32) -> Result<(), Refusal>
         ensures { (result, view self.new) ≡ close number (view self.old) }
     {
-        let slot = self.slot;
-        self.table.change(number, RowCall::Close, slot)
+        self.table.close(number)
     }
 
     /// The longest wait of the query: how many slots after its release a round starts at the latest.
@@ -68,25 +64,28 @@ impl Engine {
         ensures value { result ≡ wait number (view self.now) }
         ensures least { Waited number (view self.now) result }
     {
-        let rows = &self.table.rows;
-        let count = self.table.count;
-        match crate::rows::find(&rows[0..count], number) {
-            Some(i) => match longest_wait(self.distance, &rows[0..count], None, rows[i]) {
-                Some(wait) => Ok(wait),
-                None => Err(Refusal::NotInTable),
-            },
-            None => Err(Refusal::NotInTable),
-        }
+        let q = self.table.row(number).ok_or(Refusal::NotInTable)?;
+        let queries = Queries {
+            steps: self.length,
+            distance: self.distance,
+            rows: &self.table.rows,
+            extra: None,
+        };
+        queries.longest_wait(&q).ok_or(Refusal::NotInTable)
     }
 
     /// Whether the distance lets a round start in the present slot.
     fn may_start(&self) -> bool
         ensures { result ≡ may_start self.now.distance self.now.last self.now.slot }
     {
-        match self.last {
-            None => true,
-            Some(t) => self.slot.saturating_sub(t) >= u64::from(self.distance),
-        }
+        self.last.is_none_or(|t| self.slot.saturating_sub(t) >= u64::from(self.distance))
+    }
+
+    /// How many lines a slot can have.
+    fn most_lines(&self) -> usize
+        ensures { result ≡ most_lines (view self.now) }
+    {
+        usize::from(self.length).div_ceil(usize::from(self.distance))
     }
 
     /// Runs the present slot: writes one line for each running round, oldest start first, and answers how many.
@@ -96,15 +95,14 @@ impl Engine {
         if self.slot == LAST_SLOT {
             return Err(Refusal::LastSlot);
         }
-        let distance = usize::from(self.distance);
-        if lines.len() < (usize::from(self.length) + (distance - 1)) / distance {
+        if lines.len() < self.most_lines() {
             return Err(Refusal::ShortList);
         }
         let slot = self.slot;
         let may = self.may_start();
         let started = self.table.start_any(may);
         self.running.start_any(started, slot);
-        self.last = last_start(started, slot, self.last);
+        self.last = started.map(|_| slot).or(self.last);
         let count = self.running.write_lines(slot, lines);
         self.slot = slot + 1;
         self.running.drop_finished(self.length, slot + 1);

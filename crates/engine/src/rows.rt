@@ -1,66 +1,53 @@
-ghost use Rattle.std.specs.Prelude.{◌≡◌, ℕ, ◌+◌, ◌^◌, ◌<◌, ◌≤◌, map, length, take, Some, None, filter};
-ghost use Rattle.engine.specs.Rows.{Stands, applied, refusal_by, row_at, stays};
-ghost use Rattle.routing.specs.Search.{first_below};
+ghost use Rattle.std.specs.Prelude.{◌≡◌, ◌^◌, ◌<◌, map, Some};
+ghost use Rattle.engine.specs.Rows.{ok_unless};
 ghost use Rattle.rules.specs.Phases.{started};
-ghost use Rattle.rules.specs.Rows.{has_number, start_row};
+ghost use Rattle.rules.specs.Rows.{close_row, confirm_row, release_row, start_row};
+ghost use Rattle.rules.specs.Rules.{release_refusal, unless_booked, unless_open};
 
 use rules::phase::Phase;
 use rules::refusal::Refusal;
 use rules::row::Row;
 
-/// A call that the phase of a row settles.
-#[derive(Clone, Copy, PartialEq, Eq, Debug)]
-pub(crate) enum RowCall {
-    Confirm,
-    Release,
-    Close,
+/// A booked row, made ready.
+pub(crate) fn confirmed(row: Row) -> Result<Row, Refusal>
+    ensures { result ≡ ok_unless (unless_booked (Some row)) (confirm_row row.number row) }
+{
+    match row.phase {
+        Phase::Booked => Ok(Row {
+            phase: Phase::Ready,
+            ..row
+        }),
+        _ => Err(Refusal::NotBooked),
+    }
 }
 
-/// What a call in a slot makes of a row, in place, or why it is refused, by the row's phase and the call together.
-pub(crate) fn apply(row: &mut Row, call: RowCall, slot: u64) -> Result<(), Refusal>
+/// An open row, a round of it released in the slot.
+pub(crate) fn released(row: Row, slot: u64) -> Result<Row, Refusal>
     requires { slot < 2 ^ 62 }
-    ensures { (result, row.new) ≡ applied call slot row.old }
+    ensures { result ≡ ok_unless (release_refusal (Some row) slot) (release_row slot row.number row) }
 {
-    match (row.phase, call) {
-        (Phase::Booked, RowCall::Confirm) => {
-            row.phase = Phase::Ready;
-            Ok(())
-        }
-        (_, RowCall::Confirm) => Err(Refusal::NotBooked),
-        (Phase::Ready, RowCall::Close) => {
-            row.phase = Phase::Leaving;
-            Ok(())
-        }
-        (Phase::Waiting(since), RowCall::Close) => {
-            row.phase = Phase::LeavingWaiting(since);
-            Ok(())
-        }
-        (Phase::Ready, RowCall::Release) => {
-            if slot < row.earliest {
-                return Err(Refusal::TooEarly);
-            }
-            row.earliest = slot + u64::from(row.period);
-            row.phase = Phase::Waiting(slot);
-            Ok(())
-        }
-        (Phase::Waiting(_), RowCall::Release) => {
-            if slot < row.earliest {
-                return Err(Refusal::TooEarly);
-            }
-            Err(Refusal::RoundWaits)
-        }
+    match row.phase {
+        Phase::Ready | Phase::Waiting(_) if slot < row.earliest => Err(Refusal::TooEarly),
+        Phase::Waiting(_) => Err(Refusal::RoundWaits),
+        Phase::Ready => Ok(Row {
+            earliest: slot + u64::from(row.period),
+            phase: Phase::Waiting(slot),
+            ..row
+        }),
         _ => Err(Refusal::NotOpen),
     }
 }
 
-/// Why the call is refused where no row has its number.
-pub(crate) fn without_row(call: RowCall) -> Refusal
-    ensures { (slot : ℕ) → refusal_by call slot None ≡ Some result }
+/// An open row, closed: it leaves once no round of it waits.
+pub(crate) fn closed(row: Row) -> Result<Row, Refusal>
+    ensures { result ≡ ok_unless (unless_open (Some row)) (close_row row.number row) }
 {
-    match call {
-        RowCall::Confirm => Refusal::NotBooked,
-        RowCall::Release | RowCall::Close => Refusal::NotOpen,
-    }
+    let phase = match row.phase {
+        Phase::Ready => Phase::Leaving,
+        Phase::Waiting(since) => Phase::LeavingWaiting(since),
+        _ => return Err(Refusal::NotOpen),
+    };
+    Ok(Row { phase, ..row })
 }
 
 /// The phase after the start of the round that waits.
@@ -83,55 +70,4 @@ pub(crate) fn start_row(rows: &mut [Row], number: u32)
             row.phase = after_start(row.phase);
         }
     }
-}
-
-/// The place of the first row of a number.
-pub(crate) fn find(rows: &[Row], number: u32) -> Option<usize>
-    ensures first { result ≡ first_below (λ i. has_number number (row_at rows.now i)) (length rows.now) }
-    ensures row { Stands number rows.now result }
-{
-    for (i, row) in rows.iter().enumerate() {
-        if row.number == number {
-            return Some(i);
-        }
-    }
-    None
-}
-
-/// Which rows stay in the table.
-#[derive(Clone, Copy, PartialEq, Eq, Debug)]
-pub(crate) enum Staying {
-    /// All but those of this number.
-    OtherThan(u32),
-    /// All but those that are leaving with no round waiting.
-    NotLeaving,
-}
-
-/// Whether the row stays.
-fn stays_in(row: Row, which: Staying) -> bool
-    ensures { result ≡ stays which row }
-{
-    match which {
-        Staying::OtherThan(number) => row.number != number,
-        Staying::NotLeaving => match row.phase {
-            Phase::Leaving => false,
-            _ => true,
-        },
-    }
-}
-
-/// Moves the rows that stay to the front, in their order, and answers how many they are.
-pub(crate) fn keep_rows(rows: &mut [Row], which: Staying) -> usize
-    ensures front { take result rows.new ≡ filter (stays which) rows.old }
-    ensures fewer { result ≤ length rows.old }
-{
-    let mut to = 0;
-    for i in 0..rows.len() {
-        let row = rows[i];
-        if stays_in(row, which) {
-            rows[to] = row;
-            to += 1;
-        }
-    }
-    to
 }

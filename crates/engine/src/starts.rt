@@ -1,19 +1,9 @@
 ghost use Rattle.std.specs.Prelude.{◌≡◌};
 ghost use Rattle.engine.specs.Views.{rows_of};
-ghost use Rattle.engine.specs.Starts.{last_by, started_rows};
+ghost use Rattle.engine.specs.Starts.{started_rows};
 ghost use Rattle.rules.specs.Rows.{first_in_rank, waits};
 
 use crate::table::Table;
-
-/// The slot of the last start, after one in the slot where a query is named.
-pub(crate) fn last_start(started: Option<u32>, slot: u64, last: Option<u64>) -> Option<u64>
-    ensures { result ≡ last_by started slot last }
-{
-    match started {
-        Some(_) => Some(slot),
-        None => last,
-    }
-}
 
 impl Table {
     /// What a slot does to the table: the waiting round that ranks first starts, if it may, and its query's number is

@@ -22,5 +22,5 @@ pub struct Engine {
     ghost soon: { slot ≤ 1000000000000 },
     ghost numbered: { next ≤ 1000001 },
     ghost idle: { (trial.priority ≡ 0) × (trial.period ≡ 0) × (trial.deadline ≡ 0) },
-    ghost good: { ∥ Inv (view_by length distance slot last running.len running.rounds next table.count table.rows) ∥₁ },
+    ghost good: { ∥ Inv (view_by length distance slot last running.rounds.items next table.rows.items) ∥₁ },
 }

@@ -2,19 +2,12 @@ ghost use Rattle.std.specs.Prelude.{◌≡◌};
 ghost use Rattle.engine.specs.Trials.{nothing};
 
 /// A query that is asked for: its priority, period and deadline, as plain numbers; all 0 where none is.
-#[derive(Clone, Copy, PartialEq, Eq, Debug)]
+#[derive(Clone, Copy, Default, PartialEq, Eq, Debug)]
 pub(crate) struct TrialPlace {
     pub(crate) priority: u8,
     pub(crate) period: u32,
     pub(crate) deadline: u32,
 }
-
-/// No query.
-pub(crate) const NOTHING: TrialPlace = TrialPlace {
-    priority: 0,
-    period: 0,
-    deadline: 0,
-};
 
 /// Holds the trial place while a query is tried, and empties it when the trial ends, however it ends.
 pub(crate) struct TrialGuard<'a>(pub(crate) &'a mut TrialPlace);
@@ -23,7 +16,7 @@ impl Drop for TrialGuard<'_> {
     fn drop(self)
         ensures { self.exit.0.now ≡ nothing }
     {
-        *self.0 = NOTHING;
+        *self.0 = TrialPlace::default();
         let TrialGuard(_) = self;
     }
 }

@@ -8,13 +8,14 @@ use crate::model::Interference;
 use crate::transmission::Transmission;
 
 /// An edge of the survey: `to` hears `from`.
-#[derive(Clone, Copy, PartialEq, Eq, Debug)]
+#[derive(Clone, Copy, Default, PartialEq, Eq, Debug)]
 pub struct Edge {
     pub from: u8,
     pub to: u8,
 }
 
 /// Who hears whom, as a directed graph: bit b of word a is the edge from a to b.
+// An array beside the number of nodes, and no ArrayVec: a model is Copy, which an ArrayVec is not.
 #[derive(Clone, Copy)]
 pub struct GraphModel {
     count: u8,

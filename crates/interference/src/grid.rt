@@ -9,6 +9,7 @@ use crate::position::Position;
 use crate::transmission::Transmission;
 
 /// Nodes in a plane that is cut into square cells; a cell's neighbours keep silent while it sends.
+// An array beside the number of nodes, and no ArrayVec: a model is Copy, which an ArrayVec is not.
 #[derive(Clone, Copy)]
 pub struct GridModel {
     count: u8,
@@ -32,7 +33,7 @@ impl GridModel {
         if side < 1 || side > 100_000 {
             return Err(ModelFault::Side);
         }
-        let mut own = [Position { x: 0, y: 0 }; 64];
+        let mut own = [Position::default(); 64];
         for (i, p) in positions.iter().enumerate() {
             if !p.inside() {
                 return Err(ModelFault::Coordinate(i));

@@ -1,8 +1,8 @@
 ghost use Rattle.std.specs.Prelude.{◌≡◌, ◌≤◌};
-ghost use Rattle.interference.specs.Grid.{alike, cell, cell_of, clear, inside, near, same};
+ghost use Rattle.interference.specs.Grid.{alike, cell, cell_of, clear, inside, near};
 
 /// A position in the plane, in centimetres, or a cell of a grid over it.
-#[derive(Clone, Copy, PartialEq, Eq, Debug)]
+#[derive(Clone, Copy, Default, PartialEq, Eq, Debug)]
 pub struct Position {
     pub x: i32,
     pub y: i32,
@@ -49,17 +49,10 @@ impl Position {
         near(self.x) && near(self.y)
     }
 
-    /// Whether the two are the same cell.
-    fn same(self, other: Position) -> bool
-        ensures { result ≡ same self other }
-    {
-        self.x == other.x && self.y == other.y
-    }
-
     /// Whether the cells differ, but agree in x and in y modulo 2.
     pub(crate) fn clear(self, other: Position) -> bool
         ensures { result ≡ clear self other }
     {
-        !self.same(other) && alike(self.x, other.x) && alike(self.y, other.y)
+        self != other && alike(self.x, other.x) && alike(self.y, other.y)
     }
 }

@@ -2,7 +2,7 @@ ghost use Rattle.std.specs.Prelude.{◌≡◌};
 ghost use Rattle.interference.specs.Transmissions.{apart, proper, share};
 
 /// One transmission: the node that sends and the node that is meant to receive.
-#[derive(Clone, Copy, PartialEq, Eq, Debug)]
+#[derive(Clone, Copy, Default, PartialEq, Eq, Debug)]
 pub struct Transmission {
     pub from: u8,
     pub to: u8,

@@ -1,8 +1,7 @@
 mod Days
-mod Files
+mod Mapped
 mod Promising
 mod Reading
-mod Records
 mod Sites
 mod Slots
 mod Starting

@@ -1,9 +1,9 @@
 -- The promise over the run that a file makes of its engine.
-use Rattle.std.proofs.Common.{◌≡◌, ℕ, ◌≤◌, Bool, true, false, cond, ◌&&◌, ◌||◌, leb, List, length, Some, None, sym, refl, ap, ◌∙◌, arith}
+use Rattle.std.proofs.Common.{◌≡◌, ℕ, ◌≤◌, Bool, true, false, cond, ◌&&◌, ◌||◌, leb, List, Some, None, refl, arith}
 use Rattle.engine.proofs.Promises.{promise_for}
 use Rattle.interference.specs.Rules.{ruled_shared, ruled_swap}
 use Rattle.interference.specs.declared.transmission.Transmission.{Transmission}
-use Rattle.interference.specs.declared.fault.ModelFault.TheVariants.{NodeCount, EdgeOutside}
+use Rattle.interference.specs.declared.fault.ModelFault.TheVariants.{NodeCount}
 use Rattle.interference.specs.Graph.{list_edge}
 use Rattle.listing.specs.declared.stop.SiteFault.TheVariants.{Graph, Routing}
 use Rattle.listing.specs.Days.{calls_in}

@@ -1,11 +1,12 @@
 -- The records of a file, one by one: how many there may be does not matter.
-use Rattle.std.proofs.Common.{◌≡◌, ℕ, zero, suc, ◌+◌, ◌-◌, ◌<◌, ◌≤◌, Bool, true, false, cond, eqb, ltb, ◌⊎◌, List, length, drop, Ok, Err, Result, sym, refl, ap, ◌∙◌, inl, inr, ⊎_elim, arith, length-drop}
+use Rattle.std.proofs.Common.{◌≡◌, ℕ, zero, suc, ◌+◌, ◌-◌, ◌<◌, ◌≤◌, Bool, true, false, cond, eqb, ltb, ◌⊎◌, List, length, Ok, Err, Result, sym, refl, ap, ◌∙◌, inl, inr, ⊎_elim, arith, length-drop}
 use Rattle.dayfile.specs.declared.record.ReadFault.{ReadFault}
 use Rattle.dayfile.specs.declared.record.ReadFault.TheVariants.{CutShort, UnknownKind}
 use Rattle.dayfile.specs.declared.record.Record.{Record}
 use Rattle.dayfile.specs.declared.record.Record.TheVariants.{Nodes, Edge, Tree, Query, Release, Close, Run}
 use Rattle.dayfile.specs.Layout.{kind_of, record_of, rest_of, size_of}
 use Rattle.dayfile.specs.Reading.{next_of, read_of}
+use Rattle.listing.specs.Records.{size_by}
 use Rattle.listing.specs.Scripts.{Script, Over, Broken, Next, offset_of, script_from, script_of}
 use Rattle.std.proofs.lemmas.Bool.{cond-false, cond-true, eq-eqb, eqb-false, ltb-false, ne_eqb}
 
@@ -30,16 +31,6 @@ next_is bs p e =
   where
     not-zero : (n : ℕ) → (n ≡ 0 → ⊥) → 0 < n
     not-zero n h = omega arith
-
--- how many bytes a record takes
-abbrev pub size_by : Record → ℕ
-size_by (Nodes n) = 2
-size_by (Edge a b) = 3
-size_by (Tree c p k) = 4
-size_by (Query h p d) = 6
-size_by (Release n) = 5
-size_by (Close n) = 5
-size_by (Run k) = 3
 
 sized_by : (a b c d e f g : Bool) (n x y z u v h p q i j k : ℕ)
     → 0 < cond a 2 (cond b 3 (cond c 4 (cond d 6 (cond e 5 (cond f 5 (cond g 3 0))))))

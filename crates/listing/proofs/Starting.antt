@@ -1,16 +1,15 @@
 -- The START lines of a day are the starts of its run.
-use Rattle.std.proofs.Common.{◌≡◌, ℕ, ◌+◌, ◌-◌, ◌<◌, Bool, true, false, cond, ◌&&◌, eqb, leb, ◌⊎◌, List, [], ◌∷◌, ◌++◌, map, Some, None, Ok, Err, Option, Result, sym, refl, ap, ◌∙◌, inl, inr, append_assoc, arith}
-use Rattle.dayfile.specs.declared.record.Record.{Record}
+use Rattle.std.proofs.Common.{◌≡◌, ℕ, ◌+◌, ◌<◌, Bool, true, false, cond, ◌&&◌, eqb, leb, List, [], ◌∷◌, ◌++◌, map, Some, None, Ok, Err, Option, Result, ◌==◌, sym, refl, ap, ◌∙◌, inl, inr, append_assoc, arith}
 use Rattle.lines.specs.declared.line.TextLine.{TextLine}
 use Rattle.listing.specs.Days.{calls_for, calls_in, is_day, line_by, line_for, query_line, start_line, starting}
 use Rattle.listing.specs.declared.stop.StopFault.TheVariants.{Order}
-use Rattle.listing.specs.Listings.{Ends, Story, Writes, day_story, told, told_by}
+use Rattle.listing.specs.Listings.{Ends, Story, day_story, told, told_by}
 use Rattle.listing.specs.Promises.{start_slots, started_at, starts_told}
 use Rattle.listing.specs.Scripts.{Script, Over, Broken, Next}
 use Rattle.listing.specs.Stops.{stopped}
-use Rattle.rules.proofs.Invariant.{Inv, Rounds}
+use Rattle.rules.proofs.Invariant.{Inv}
 use Rattle.rules.proofs.States.{keeps_inv, keeps_run}
-use Rattle.rules.proofs.Steps.{Ways, by_ways}
+use Rattle.rules.proofs.Steps.{by_ways}
 use Rattle.rules.specs.declared.call.Call.{Call}
 use Rattle.rules.specs.declared.refusal.Refusal.{Refusal}
 use Rattle.rules.specs.declared.round.Line.{Line}
@@ -18,8 +17,10 @@ use Rattle.rules.specs.declared.round.Round.{Round}
 use Rattle.rules.specs.Lists.{◌∈◌}
 use Rattle.rules.specs.Promise.{starts_in, times}
 use Rattle.rules.specs.Rules.{View, line_at, wait}
-use Rattle.rules.specs.Runs.{Answer, Numbered, Done, Listed, Refused, Moment, history, last_view, lines_by, moment, step}
+use Rattle.rules.specs.Runs.{Answer, Numbered, Done, Listed, Refused, history, last_view, lines_by, moment, step}
 use Rattle.std.proofs.lemmas.Bool.{eqb-true, ne_eqb}
+use Rattle.std.specs.List.{find}
+use Rattle.std.specs.Option.{option_map}
 
 -- no line after one with step 0 has step 0
 abbrev Single : List Line → Type 0
@@ -88,7 +89,7 @@ module _ (n : ℕ) where
       later false k = ap (λ m. cond (leb 1 m) (slot ∷ []) []) (let e : k ≡ 0 + k = omega arith in e)
 
       go : starts_by (start_line slot (starting ls)) ≡ cond (leb 1 (times n 0 ls)) (slot ∷ []) [] → (b : Bool) → eqb l.step 0 ≡ b
-          → starts_by (start_line slot (cond b (Some l.number) (starting ls))) ≡ cond (leb 1 (cond (eqb l.number n && b) 1 0 + times n 0 ls)) (slot ∷ []) []
+          → starts_by (start_line slot (option_map (λ (k : Line). k.number) (cond b (Some l) (find (λ (k : Line). k.step == 0) ls)))) ≡ cond (leb 1 (cond (eqb l.number n && b) 1 0 + times n 0 ls)) (slot ∷ []) []
       go found true e = at_once (eqb l.number n) (times n 0 ls) (no_times ls (first (eqb-true l.step 0 e)))
       go found false e = found ∙ later (eqb l.number n) (times n 0 ls)
 

@@ -4,22 +4,19 @@ use Rattle.interference.specs.declared.fault.ModelFault.{ModelFault}
 use Rattle.interference.specs.declared.fault.ModelFault.TheVariants.{NodeCount, EdgeOutside}
 use Rattle.lines.specs.declared.line.TextLine.{TextLine}
 use Rattle.lines.specs.Text.{bytes_of}
-use Rattle.listing.specs.declared.stop.Ending.{Ending}
-use Rattle.listing.specs.declared.stop.Ending.TheVariants.{Complete, Stopped}
 use Rattle.listing.specs.declared.stop.SiteFault.{SiteFault}
 use Rattle.listing.specs.declared.stop.SiteFault.TheVariants.{Graph, Routing}
 use Rattle.listing.specs.declared.stop.Stop.{Stop}
 use Rattle.listing.specs.declared.stop.StopFault.{StopFault}
 use Rattle.listing.specs.declared.stop.StopFault.TheVariants.{TooLong, Unreadable, Order, NoRoom, Unplanned}
-use Rattle.dayfile.specs.declared.record.Record.{Record}
 use Rattle.dayfile.specs.declared.record.Record.TheVariants.{Nodes, Edge, Tree, Query, Release, Close, Run}
 use Rattle.listing.specs.Days.{calls_for, is_day, line_for}
 use Rattle.listing.specs.Listings.{Done, Ends, Story, Writes, day_story, ended, engine_of, fitted, listing_of, plan_story, prepend, site_story, story_of, told, told_by}
 use Rattle.listing.specs.Promises.{Carried, FaultOf, Unplannable}
-use Rattle.listing.specs.Scripts.{Script, Over, Broken, Next, offset_of, script_of}
+use Rattle.listing.specs.Scripts.{Script, Over, Broken, Next, script_of}
 use Rattle.listing.specs.Sites.{Site, bare, graph_fault, planned, site_fault, site_in, surveyed, with_edge, with_link}
-use Rattle.listing.specs.Stops.{stop_at, stopped}
-use Rattle.plan.specs.Plans.{Plan, length_of}
+use Rattle.listing.specs.Stops.{stopped}
+use Rattle.plan.specs.Plans.{Plan}
 use Rattle.routing.specs.declared.fault.TreeFault.{TreeFault}
 use Rattle.routing.specs.Search.{or_else}
 use Rattle.routing.specs.Tree.{tree_fault}
@@ -27,7 +24,7 @@ use Rattle.rules.specs.Rules.{View}
 use Rattle.rules.specs.Runs.{Moment, history, last_view}
 use Rattle.std.specs.Option.{option_map}
 
--- the fault of the site in an ending
+-- the fault of the site in a stop
 abbrev in_fault : StopFault → Option SiteFault
 in_fault TooLong = None
 in_fault (Unreadable f) = None
@@ -35,9 +32,9 @@ in_fault Order = None
 in_fault NoRoom = None
 in_fault (Unplanned f) = Some f
 
-abbrev in_ending : Ending → Option SiteFault
-in_ending Complete = None
-in_ending (Stopped stop) = in_fault stop.fault
+abbrev in_stop : Option Stop → Option SiteFault
+in_stop None = None
+in_stop (Some stop) = in_fault stop.fault
 
 -- the graph is refused by 11 or 12, and the site by that or by its tree
 carried_graph : (b : Bool) (o : Option ℕ) (m : ModelFault) → or_else (cond b None (Some NodeCount)) (option_map EdgeOutside o) ≡ Some m → Carried (Graph m)
@@ -79,11 +76,11 @@ site_plain (Next (Close n) o rest) = refl
 site_plain (Next (Run k) o rest) = refl
 
 module _ (file : List ℕ) where
-  -- a fault of the site in the ending is that of the file's site
-  abbrev Good : Ending → Type 0
-  Good e = (f : SiteFault) → in_ending e ≡ Some f → FaultOf file f
+  -- a fault of the site in the stop is that of the file's site
+  abbrev Good : Option Stop → Type 0
+  Good e = (f : SiteFault) → in_stop e ≡ Some f → FaultOf file f
 
-  other : (e : Ending) → in_ending e ≡ None → Good e
+  other : (e : Option Stop) → in_stop e ≡ None → Good e
   other e none f some = let clash = sym some ∙ none in let z : ◌≡◌ {A = ℕ} 0 1 = cc in absurd (omega arith)
 
   abbrev AllGood : Story → Type 0
@@ -103,7 +100,7 @@ module _ (file : List ℕ) where
   told_good o (m ∷ h) s good = told_by_good (line_for o m) o (told o h s) (told_good o h s good)
 
   day_good : (v : View) (script : Script) → AllGood (day_story v script)
-  day_good v (Over o) = other Complete refl
+  day_good v (Over o) = other None refl
   day_good v (Broken f o) = other (stopped (Unreadable f) o) refl
   day_good v (Next r o rest) =
       chosen (is_day r) (told o (history v (calls_for r v)) (day_story (last_view v (calls_for r v)) rest)) (Ends (stopped Order o))
@@ -126,22 +123,22 @@ module _ (file : List ℕ) where
         described = is;
         fault = e;
       })
-  site_good (Err stop) is plain = other (Stopped stop) plain
+  site_good (Err stop) is plain = other (Some stop) plain
 
   file_good : AllGood (story_of file)
   file_good =
       chosen (ltb 16384 (length file)) (Ends (stopped TooLong 0)) (site_story (site_in (script_of (length file) file)))
       (other (stopped TooLong 0) refl) (site_good (site_in (script_of (length file) file)) refl (site_plain (script_of (length file) file)))
 
-  fits_good : (b : Bool) (bs : List ℕ) (d : Done) (o : ℕ) → Good d.ending → Good (cond b (prepend bs d) (ended (stopped NoRoom o))).ending
+  fits_good : (b : Bool) (bs : List ℕ) (d : Done) (o : ℕ) → Good d.stop → Good (cond b (prepend bs d) (ended (stopped NoRoom o))).stop
   fits_good true bs d o good = good
   fits_good false bs d o good = other (stopped NoRoom o) refl
 
-  fitted_good : (most i : ℕ) (s : Story) → AllGood s → Good (fitted most i s).ending
+  fitted_good : (most i : ℕ) (s : Story) → AllGood s → Good (fitted most i s).stop
   fitted_good most i (Ends e) good = good
   fitted_good most i (Writes l o s) good =
       fits_good (leb (i + length (bytes_of l)) most) (bytes_of l) (fitted most (i + length (bytes_of l)) s) o
       (fitted_good most (i + length (bytes_of l)) s good)
 
-  pub unplannable : (most : ℕ) (ending : Ending) → ending ≡ (listing_of most file).ending → Unplannable file ending
-  unplannable most ending is f o e = fitted_good most 0 (story_of file) file_good f (ap in_ending (sym is ∙ e))
+  pub unplannable : (most : ℕ) (stop : Option Stop) → stop ≡ (listing_of most file).stop → Unplannable file stop
+  unplannable most stop is f o e = fitted_good most 0 (story_of file) file_good f (ap in_stop (sym is ∙ e))

@@ -12,6 +12,8 @@ use Rattle.rules.specs.declared.round.Line.{Line}
 use Rattle.rules.specs.Refusals.{code_of, named_by}
 use Rattle.rules.specs.Rules.{View, book, wait}
 use Rattle.rules.specs.Runs.{Answer, Numbered, Done, Listed, Refused, Moment, last_view}
+use Rattle.std.specs.List.{find}
+use Rattle.std.specs.Option.{option_map}
 
 -- a record of the day, and not of the site
 abbrev pub is_day : Record → Bool
@@ -53,15 +55,10 @@ calls_in v (Next r o rest) = cond (is_day r) (calls_for r v ++ calls_in (last_vi
 
 -- the number whose round starts: that of the line with step 0
 abbrev pub starting : List Line → Option ℕ
-starting [] = None
-starting (l ∷ ls) = cond (l.step == 0) (Some l.number) (starting ls)
+starting ls = option_map (λ (l : Line). l.number) (find (λ (l : Line). l.step == 0) ls)
 
 abbrev pub no_line : ℕ → Refusal → TextLine
 no_line o r = No (code_of r) o (named_by r)
-
-abbrev pub refused_line : ℕ → Result (Unit {0}) Refusal → Option TextLine
-refused_line o (Ok u) = None
-refused_line o (Err r) = Some (no_line o r)
 
 abbrev pub query_line : ℕ → ℕ → Result ℕ Refusal → TextLine
 query_line o n (Ok w) = Query n w

@@ -1,19 +1,18 @@
 -- What comes back to C.
-use Rattle.std.specs.Prelude.{◌≡◌, ℕ, ◌<◌, ◌≤◌, cond, List, ◌++◌, length, drop, Some, None, ◌==◌, nat_le}
+use Rattle.std.specs.Prelude.{◌≡◌, ℕ, cond, List, ◌++◌, length, drop, Some, None, Option, ◌==◌, nat_le}
 use Rattle.lines.specs.declared.line.TextLine.TheVariants.{Stop as StopLine}
 use Rattle.lines.specs.Text.{bytes_of}
 use Rattle.listing.specs.declared.export.LineReport.{LineReport}
 use Rattle.listing.specs.declared.export.ListingReport.{ListingReport}
-use Rattle.listing.specs.declared.stop.Ending.{Ending}
-use Rattle.listing.specs.declared.stop.Ending.TheVariants.{Complete, Stopped}
+use Rattle.listing.specs.declared.stop.Stop.{Stop}
 use Rattle.listing.specs.Listings.{Done}
 use Rattle.listing.specs.Stops.{code_of, inner_in, position_in}
 use Rattle.std.specs.Option.{unwrap_or}
 
--- the numbers of an ending
-abbrev pub report_of : ℕ → Ending → ListingReport
-report_of n Complete = record { length = n; refusal = 0; offset = 0; inner = 0; position = 0 }
-report_of n (Stopped stop) = record {
+-- the numbers of a listing's length and stop
+abbrev pub report_of : ℕ → Option Stop → ListingReport
+report_of n None = record { length = n; refusal = 0; offset = 0; inner = 0; position = 0 }
+report_of n (Some stop) = record {
   length = n;
   refusal = code_of stop.fault;
   offset = stop.offset;
@@ -23,7 +22,7 @@ report_of n (Stopped stop) = record {
 
 -- the numbers are those of the listing, and its text stands at the front of the list, which is as it was past it
 pub record Reported (d : Done) (before after : List ℕ) (r : ListingReport) : Type 0 where
-  pub numbers : r ≡ report_of (length d.text) d.ending
+  pub numbers : r ≡ report_of (length d.text) d.stop
   pub text : after ≡ d.text ++ drop (length d.text) before
 
 -- the STOP line of these numbers

@@ -1,5 +1,6 @@
 pub mod Stops
 pub mod Scripts
+pub mod Records
 pub mod Sites
 pub mod Days
 pub mod Listings

@@ -1,11 +1,11 @@
 -- What the listing of a file promises of the engine that the file drives, and of a site that has no plan.
-use Rattle.std.specs.Prelude.{◌≡◌, ℕ, cond, List, [], ◌∷◌, ◌++◌, map, length, Some, None, Ok, ◌==◌}
+use Rattle.std.specs.Prelude.{◌≡◌, ℕ, cond, List, [], ◌∷◌, ◌++◌, map, length, Some, None, Ok, Option, ◌==◌}
 use Rattle.interference.specs.declared.fault.ModelFault.TheVariants.{NodeCount, EdgeOutside, Side, Coordinate}
 use Rattle.lines.specs.declared.line.TextLine.{TextLine}
 use Rattle.lines.specs.declared.line.TextLine.TheVariants.{Plan as PlanLine, Query as QueryLine, Start as StartLine, No as NoLine, Stop as StopLine}
-use Rattle.listing.specs.declared.stop.Ending.{Ending}
 use Rattle.listing.specs.declared.stop.SiteFault.{SiteFault}
 use Rattle.listing.specs.declared.stop.SiteFault.TheVariants.{Graph, Routing}
+use Rattle.listing.specs.declared.stop.Stop.{Stop}
 use Rattle.listing.specs.declared.stop.StopFault.TheVariants.{Unplanned}
 use Rattle.listing.specs.Days.{calls_in}
 use Rattle.listing.specs.Listings.{Ends, Story, Writes, day_story, engine_of}
@@ -66,5 +66,5 @@ pub record FaultOf (file : List ℕ) (f : SiteFault) : Type 0 where
   pub fault : site_fault site ≡ Some f
 
 -- a listing that stops for want of a plan carries the one fault of its site
-abbrev pub Unplannable : List ℕ → Ending → Type 0
-Unplannable file ending = (f : SiteFault) (o : ℕ) → ending ≡ stopped (Unplanned f) o → FaultOf file f
+abbrev pub Unplannable : List ℕ → Option Stop → Type 0
+Unplannable file stop = (f : SiteFault) (o : ℕ) → stop ≡ stopped (Unplanned f) o → FaultOf file f

@@ -1,6 +1,5 @@
 -- The site that a day file describes, and the plan of that site.
 use Rattle.std.specs.Prelude.{ℕ, Bool, cond, not, ◌&&◌, List, [], ◌∷◌, ◌++◌, length, Some, None, Ok, Err, Option, Result, nat_le, nat_lt}
-use Rattle.dayfile.specs.declared.record.Record.{Record}
 use Rattle.dayfile.specs.declared.record.Record.TheVariants.{Nodes, Edge as EdgeRecord, Tree, Query, Release, Close, Run}
 use Rattle.interference.specs.declared.fault.ModelFault.{ModelFault}
 use Rattle.interference.specs.declared.fault.ModelFault.TheVariants.{NodeCount, EdgeOutside}
@@ -10,8 +9,8 @@ use Rattle.interference.specs.Graph.{edge_at, graph_conflict, list_edge}
 use Rattle.listing.specs.declared.stop.SiteFault.{SiteFault}
 use Rattle.listing.specs.declared.stop.SiteFault.TheVariants.{Graph, Routing}
 use Rattle.listing.specs.declared.stop.Stop.{Stop}
-use Rattle.listing.specs.declared.stop.StopFault.TheVariants.{Unreadable, Order}
-use Rattle.listing.specs.Scripts.{Script, Over, Broken, Next}
+use Rattle.listing.specs.declared.stop.StopFault.TheVariants.{TooLong, Unreadable, Order, Unplanned}
+use Rattle.listing.specs.Scripts.{Script, Over, Broken, Next, offset_of, script_of}
 use Rattle.listing.specs.Stops.{stop_at}
 use Rattle.plan.specs.Drafts.{step_of}
 use Rattle.plan.specs.Plans.{Plan}
@@ -88,3 +87,16 @@ planned s = record {
   counts = sizes (steps_of s);
   distance = distance_of (conflict_of s) (flat (steps_of s)) (step_of (sizes (steps_of s)));
 }
+
+-- the number of nodes and the plan of a site, if it has one; else the listing stops at the first record of the day
+abbrev pub planned_or : Option SiteFault → Site → Script → Result (ℕ × Plan) Stop
+planned_or None s script = Ok (s.count, planned s)
+planned_or (Some f) s script = Err (stop_at (Unplanned f) (offset_of script))
+
+abbrev pub planned_from : Result (Site × Script) Stop → Result (ℕ × Plan) Stop
+planned_from (Ok b) = planned_or (site_fault b.0) b.0 b.1
+planned_from (Err stop) = Err stop
+
+-- the number of nodes and the plan of the site of a file, or the stop of its listing before a line is written
+abbrev pub planned_site : List ℕ → Result (ℕ × Plan) Stop
+planned_site file = cond (nat_lt 16384 (length file)) (Err (stop_at TooLong 0)) (planned_from (site_in (script_of (length file) file)))

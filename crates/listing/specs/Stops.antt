@@ -1,11 +1,9 @@
--- Endings of a listing, and the numbers of their faults.
+-- Where a listing stops, and the numbers of its faults.
 use Rattle.std.specs.Prelude.{ℕ, Some, None, Option}
 use Rattle.dayfile.specs.Codes.{code_of as read_code}
 use Rattle.interference.specs.Faults.{code_of as model_code, place_of as model_place}
 use Rattle.lines.specs.declared.line.TextLine.{TextLine}
 use Rattle.lines.specs.declared.line.TextLine.TheVariants.{Stop as StopLine}
-use Rattle.listing.specs.declared.stop.Ending.{Ending}
-use Rattle.listing.specs.declared.stop.Ending.TheVariants.{Complete, Stopped}
 use Rattle.listing.specs.declared.stop.SiteFault.{SiteFault}
 use Rattle.listing.specs.declared.stop.SiteFault.TheVariants.{Graph, Routing}
 use Rattle.listing.specs.declared.stop.Stop.{Stop}
@@ -48,8 +46,8 @@ position_in (Unplanned f) = position_of f
 abbrev pub stop_at : StopFault → ℕ → Stop
 stop_at fault o = record { fault = fault; offset = o }
 
-abbrev pub stopped : StopFault → ℕ → Ending
-stopped fault o = Stopped (stop_at fault o)
+abbrev pub stopped : StopFault → ℕ → Option Stop
+stopped fault o = Some (stop_at fault o)
 
 -- the line of a stop
 abbrev pub stop_line : Stop → TextLine

@@ -1,35 +1,34 @@
 -- A site as its records are kept, and the reading of them.
-use Rattle.std.specs.Prelude.{◌≡◌, ℕ, ◌+◌, ◌*◌, ◌<◌, ◌≤◌, List, length, take, None, Ok, Err, Result}
-use Rattle.std.specs.Borrow.{Bor}
-use Rattle.listing.specs.declared.stop.Ending.TheVariants.{Stopped}
+use Rattle.std.specs.Prelude.{◌≡◌, ℕ, ◌+◌, ◌*◌, ◌≤◌, List, length, Some, None, Ok, Err, Result}
+use Rattle.listing.specs.declared.records.Records.{Records}
 use Rattle.listing.specs.declared.stop.Stop.{Stop}
+use Rattle.listing.specs.declared.survey.PlannedSite.{PlannedSite}
 use Rattle.listing.specs.declared.survey.Survey.{Survey}
-use Rattle.listing.specs.Listings.{Ends, plan_story, site_story}
-use Rattle.listing.specs.Scripts.{script_of}
-use Rattle.listing.specs.Sites.{Site, bare, site_in, surveyed}
-use Rattle.plan.specs.Plans.{Plan}
+use Rattle.listing.specs.Listings.{Ends, plan_story, story_of}
+use Rattle.listing.specs.Records.{script_in}
+use Rattle.listing.specs.Sites.{Site, bare, planned_site, site_in, surveyed}
+use Rattle.plan.specs.Plans.{plan_of}
 
 abbrev pub site_of : Survey → Site
-site_of s = record { count = s.count; edges = take s.edge_count s.edges; links = take s.link_count s.links }
+site_of s = record { count = s.count; edges = s.edges.items; links = s.links.items }
 
 -- there is room for all records that the bytes can hold: an edge record has three bytes, a tree record four
-abbrev pub Roomy : Survey → List ℕ → Type 0
-Roomy s bs = 3 * s.edge_count + 4 * s.link_count + length bs ≤ 16384
+abbrev pub Roomy : Survey → Records → Type 0
+Roomy s rs = 3 * length s.edges.items + 4 * length s.links.items + length rs.rest.now ≤ 16384
 
--- the first record of a file was read
-abbrev pub NodesRead : List ℕ → Result (ℕ × Bor (List ℕ)) Stop → Type 0
-NodesRead file (Ok p) =
-    (site_in (script_of (length file) file) ≡ surveyed (bare p.0) (script_of (length file) p.1.now)) × (length p.1.now < length file)
-NodesRead file (Err stop) = site_in (script_of (length file) file) ≡ Err stop
+-- the nodes record was read
+abbrev pub NodesRead : Records → Result (ℕ × Records) Stop → Type 0
+NodesRead rs (Ok p) = (site_in (script_in rs) ≡ surveyed (bare p.0) (script_in p.1)) × (p.1.total ≡ rs.total)
+NodesRead rs (Err stop) = site_in (script_in rs) ≡ Err stop
 
--- the records of the site were read, from the last bytes of a file of so many bytes
-abbrev pub SiteRead : Survey → Survey → ℕ → List ℕ → Result (Bor (List ℕ)) Stop → Type 0
-SiteRead s s' total bs (Ok rest) =
-    (surveyed (site_of s) (script_of total bs) ≡ Ok (site_of s', script_of total rest.now)) × (length rest.now ≤ total) × Roomy s' rest.now
-SiteRead s s' total bs (Err stop) = surveyed (site_of s) (script_of total bs) ≡ Err stop
+-- the other records of the site were read
+abbrev pub SiteRead : Survey → Survey → Records → Result Records Stop → Type 0
+SiteRead s s' rs (Ok rest) =
+    (surveyed (site_of s) (script_in rs) ≡ Ok (site_of s', script_in rest)) × (s'.count ≡ s.count)
+SiteRead s s' rs (Err stop) = surveyed (site_of s) (script_in rs) ≡ Err stop
 
--- the site of the file was read and its plan stands in the place; or the listing stops before a line is written
-abbrev pub Planned : List ℕ → Plan → Result (Bor (List ℕ)) Stop → Type 0
-Planned file p (Ok rest) =
-    (site_story (site_in (script_of (length file) file)) ≡ plan_story None p (script_of (length file) rest.now)) × (length rest.now ≤ length file)
-Planned file p (Err stop) = site_story (site_in (script_of (length file) file)) ≡ Ends (Stopped stop)
+-- the site of the file was read and planned; or the listing stops before a line is written
+abbrev pub Planned : List ℕ → Result (PlannedSite × Records) Stop → Type 0
+Planned file (Ok p) =
+    (story_of file ≡ plan_story None (plan_of p.0.plan) (script_in p.1)) × (planned_site file ≡ Ok (p.0.nodes, plan_of p.0.plan))
+Planned file (Err stop) = (story_of file ≡ Ends (Some stop)) × (planned_site file ≡ Err stop)

@@ -1,15 +1,18 @@
 // What a record of the day makes the engine do, and the line that tells of it.
-ghost use Rattle.std.specs.Prelude.{◌≡◌, length, Some};
+ghost use Rattle.std.specs.Prelude.{◌≡◌};
 ghost use Rattle.dayfile.specs.declared.record.Record.TheVariants.{Close, Query, Release};
 ghost use Rattle.engine.specs.Engines.{view};
-ghost use Rattle.listing.specs.Days.{deadline_of, no_line, query_line, refused_line, slot_room, starting};
-ghost use Rattle.listing.specs.Turns.{Called, OneLine};
+ghost use Rattle.listing.specs.Days.{deadline_of, no_line, slot_room, start_line, starting};
+ghost use Rattle.listing.specs.Turns.{Called, OneLine, outcome_line};
 ghost use Rattle.rules.specs.declared.call.Call.TheVariants.{Slot};
 
 use engine::state::Engine;
 use lines::line::TextLine;
 use rules::refusal::Refusal;
 use rules::round::Line;
+
+/// How many lines a slot can have over any plan.
+pub(crate) const SLOT_ROOM: usize = 256;
 
 /// The line of a refusal.
 fn no_line(refusal: Refusal, offset: usize) -> TextLine
@@ -18,34 +21,18 @@ fn no_line(refusal: Refusal, offset: usize) -> TextLine
     TextLine::No {
         refusal: u64::from(refusal.code()),
         offset: offset as u64,
-        named: match refusal.named() {
-            Some(number) => Some(u64::from(number)),
-            None => None,
-        },
+        named: refusal.named().map(u64::from),
     }
 }
 
-/// The line of a call that answers nothing where it is accepted.
-fn refused_line(outcome: Result<(), Refusal>, offset: usize) -> Option<TextLine>
-    ensures { result ≡ refused_line offset outcome }
+/// The line of what came of a call for the record at the offset.
+pub(crate) fn outcome_line(
+    outcome: Result<Option<TextLine>, Refusal>,
+    offset: usize,
+) -> Option<TextLine>
+    ensures { result ≡ outcome_line offset outcome }
 {
-    match outcome {
-        Ok(()) => None,
-        Err(refusal) => Some(no_line(refusal, offset)),
-    }
-}
-
-/// The line of a query that was accepted: its number and longest wait.
-fn query_line(number: u32, wait: Result<u64, Refusal>, offset: usize) -> TextLine
-    ensures { result ≡ query_line offset number wait }
-{
-    match wait {
-        Ok(wait) => TextLine::Query {
-            number: u64::from(number),
-            wait,
-        },
-        Err(refusal) => no_line(refusal, offset),
-    }
+    outcome.unwrap_or_else(|refusal| Some(no_line(refusal, offset)))
 }
 
 /// The deadline of a query record: 0 stands for the period.
@@ -61,41 +48,40 @@ pub(crate) fn query(
     priority: u8,
     period: u16,
     deadline: u16,
-    offset: usize,
-) -> TextLine
-    ensures { OneLine offset (Query priority period deadline) (view engine.old) (view engine.new) (Some result) }
+) -> Result<Option<TextLine>, Refusal>
+    ensures { OneLine (Query priority period deadline) (view engine.old) (view engine.new) result }
 {
     let deadline = deadline_of(period, deadline);
-    match engine.book(priority, u32::from(period), u32::from(deadline)) {
-        Ok(booking) => {
-            let number = booking.number();
-            let wait = engine.wait(number);
-            match engine.confirm(booking) {
-                Ok(()) => query_line(number, wait, offset),
-                Err(_) => unreachable(),
-            }
-        }
-        Err(refusal) => no_line(refusal, offset),
+    let booking = engine.book(priority, u32::from(period), u32::from(deadline))?;
+    let number = booking.number();
+    let wait = engine.wait(number);
+    match engine.confirm(booking) {
+        Ok(()) => Ok(Some(TextLine::Query {
+            number: u64::from(number),
+            wait: wait?,
+        })),
+        Err(_) => unreachable(),
     }
 }
 
 /// A release record.
-pub(crate) fn release(engine: &mut Engine, number: u32, offset: usize) -> Option<TextLine>
-    ensures { OneLine offset (Release number) (view engine.old) (view engine.new) result }
+pub(crate) fn release(engine: &mut Engine, number: u32) -> Result<Option<TextLine>, Refusal>
+    ensures { OneLine (Release number) (view engine.old) (view engine.new) result }
 {
-    let result = engine.release(number);
-    refused_line(result, offset)
+    engine.release(number)?;
+    Ok(None)
 }
 
 /// A close record.
-pub(crate) fn close(engine: &mut Engine, number: u32, offset: usize) -> Option<TextLine>
-    ensures { OneLine offset (Close number) (view engine.old) (view engine.new) result }
+pub(crate) fn close(engine: &mut Engine, number: u32) -> Result<Option<TextLine>, Refusal>
+    ensures { OneLine (Close number) (view engine.old) (view engine.new) result }
 {
-    let result = engine.close(number);
-    refused_line(result, offset)
+    engine.close(number)?;
+    Ok(None)
 }
 
 /// The number of the query whose round starts, if one does: its line has step 0.
+// A `for`: with `iter().find(..)` a quiet slot takes four jumps more, and a long day a twentieth longer
 fn starting(lines: &[Line]) -> Option<u32>
     ensures { result ≡ starting lines.now }
 {
@@ -107,20 +93,24 @@ fn starting(lines: &[Line]) -> Option<u32>
     None
 }
 
+/// The line of a slot that ran.
+fn start_line(slot: u64, starting: Option<u32>) -> Option<TextLine>
+    ensures { result ≡ start_line slot starting }
+{
+    starting.map(|number| TextLine::Start {
+        slot,
+        number: u64::from(number),
+    })
+}
+
 /// One slot of a run record.
-pub(crate) fn slot(engine: &mut Engine, lines: &mut [Line], offset: usize) -> Option<TextLine>
-    requires { length lines.old ≡ slot_room }
-    ensures { Called offset (Slot slot_room) (view engine.old) (view engine.new) result }
+pub(crate) fn slot(
+    engine: &mut Engine,
+    lines: &mut [Line; SLOT_ROOM],
+) -> Result<Option<TextLine>, Refusal>
+    ensures { Called (Slot slot_room) (view engine.old) (view engine.new) result }
 {
     let slot = engine.present_slot();
-    match engine.slot(lines) {
-        Ok(count) => match starting(&lines[0..count]) {
-            Some(number) => Some(TextLine::Start {
-                slot,
-                number: u64::from(number),
-            }),
-            None => None,
-        },
-        Err(why) => Some(no_line(why, offset)),
-    }
+    let count = engine.slot(lines)?;
+    Ok(start_line(slot, starting(&lines[0..count])))
 }

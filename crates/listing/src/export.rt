@@ -6,12 +6,12 @@ ghost use Rattle.listing.specs.Listings.{listing_of};
 ghost use Rattle.listing.specs.Promises.{FilePromised};
 
 use crate::listing::list;
-use crate::stop::Ending;
 use lines::line::TextLine;
 use lines::writer::{Full, put_line};
 
 /// A listing, in numbers. `refusal` is 0 where it is complete; `offset` is where in the file it stopped. `inner` and
 /// `position` are the number and the position of the site's refusal where it stopped for that, and otherwise 0.
+// Numbers, and 0 for what there is not, here and below: C has neither an Option nor an enum with values in it.
 #[repr(C)]
 #[derive(Clone, Copy)]
 pub struct ListingReport {
@@ -37,15 +37,15 @@ pub fn sundrixa_list(file: &[u8], out: &mut [u8]) -> ListingReport
 {
     let listing = list(file, out);
     let length = listing.length as u64;
-    match listing.ending {
-        Ending::Complete => ListingReport {
+    match listing.stop {
+        None => ListingReport {
             length,
             refusal: 0,
             offset: 0,
             inner: 0,
             position: 0,
         },
-        Ending::Stopped(stop) => ListingReport {
+        Some(stop) => ListingReport {
             length,
             refusal: u64::from(stop.fault.code()),
             offset: stop.offset as u64,

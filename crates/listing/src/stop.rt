@@ -1,9 +1,11 @@
 ghost use Rattle.std.specs.Prelude.{◌≡◌};
 ghost use Rattle.listing.specs.Stops.{code_of, inner_in, inner_of, position_in, position_of};
 ghost use Rattle.listing.specs.declared.stop.SiteFault.TheVariants.{Graph, Routing};
+ghost use Rattle.listing.specs.declared.stop.StopFault.TheVariants.{NoRoom};
 
 use dayfile::record::ReadFault;
 use interference::fault::ModelFault;
+use lines::writer::Full;
 use routing::fault::TreeFault;
 
 /// Why a site has no plan: its graph or its routing tree is refused. What the planner makes of a sound tree is always
@@ -36,13 +38,6 @@ pub struct Stop {
     pub offset: usize,
 }
 
-/// How a listing ends.
-#[derive(Clone, Copy, PartialEq, Eq, Debug)]
-pub enum Ending {
-    Complete,
-    Stopped(Stop),
-}
-
 impl SiteFault {
     /// The number that the refusal is reported by.
     pub fn code(self) -> u8
@@ -54,6 +49,7 @@ impl SiteFault {
         }
     }
 
+    // `code` and `position` hand on to the fault inside, each to the method of its name: a closure would say no more.
     /// The position of the first offender, an edge or a tree record, where the refusal has one.
     pub fn position(self) -> Option<usize>
         ensures { result ≡ position_of self }
@@ -97,6 +93,14 @@ impl StopFault {
             StopFault::Unplanned(fault) => fault.position(),
             _ => None,
         }
+    }
+}
+
+impl From<Full> for StopFault {
+    ghost from_gives = { λ f r. r ≡ NoRoom };
+
+    fn from(_: Full) -> StopFault {
+        Self::NoRoom
     }
 }
 

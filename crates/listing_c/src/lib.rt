@@ -21,6 +21,7 @@ pub extern "C" fn sundrixa_list(file: &[u8], out: &mut [u8]) -> ListingReport
 
 /// Writes the STOP line of a listing that stopped, from its numbers: the inner number stands in it where the refusal
 /// is 35.
+// Numbers for refusals: C has no enum with values in it.
 #[unsafe(no_mangle)]
 pub extern "C" fn sundrixa_stop_line(
     refusal: u64,

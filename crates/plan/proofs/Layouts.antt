@@ -3,11 +3,6 @@ use Rattle.std.proofs.Common.{◌≡◌, ℕ, ◌+◌, ◌-◌, ◌<◌, ◌≤�
 use Rattle.std.proofs.lemmas.List.{drop-take, get_or-take, length-take-le, take-take}
 use Rattle.std.proofs.lemmas.List.Sums.{sum_by_more, sum_by-take-le}
 
--- counts at the front of a table add up as they do alone
-pub front_sum : (table cs : List ℕ) (k : ℕ) → take (length cs) table ≡ cs → k ≤ length cs → sum (take k cs) ≡ sum (take k table)
-front_sum table cs k front h =
-    ap (λ xs. sum (take k xs)) (sym front) ∙ ap sum (take-take k (length cs) table h)
-
 module _ (counts : List ℕ) (steps k : ℕ) (below : k < steps) (long : steps ≤ length counts) where
   pub count_at : get_or (take steps counts) k 0 ≡ get_or counts k 0
   count_at = get_or-take steps counts k 0 below

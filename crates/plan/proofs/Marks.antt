@@ -1,34 +1,13 @@
 -- Places that a step is written at, and the step of a place.
-use Rattle.std.proofs.Common.{◌≡◌, ℕ, zero, suc, ◌+◌, ◌-◌, ◌<◌, ◌≤◌, cond, ◌&&◌, ltb, leb, List, [], ◌∷◌, length, get_or, take, set, sum, sym, refl, ap, ◌∙◌, ⊎_elim, arith}
+use Rattle.std.proofs.Common.{◌≡◌, ℕ, zero, suc, ◌+◌, ◌-◌, ◌<◌, ◌≤◌, cond, ◌&&◌, ltb, leb, List, [], ◌∷◌, length, get_or, take, sum, sym, refl, ap, ◌∙◌, ⊎_elim, arith}
 use Rattle.plan.specs.Drafts.{step_of}
-use Rattle.std.proofs.lemmas.List.{get_or-set_other, get_or-set_same}
 use Rattle.std.proofs.lemmas.List.Sums.{sum_by-cons}
-use Rattle.std.proofs.lemmas.Bool.{cases_eq, cases_lt, le-ltb, lt-ltb}
+use Rattle.std.proofs.lemmas.Bool.{cases_lt, le-ltb, lt-ltb}
 use Rattle.std.proofs.lemmas.Bool.Decides.{nat_tests}
 
 -- v stands at the places from `from` up to `to`, and what stood before at the others
 abbrev pub Marked : List ℕ → List ℕ → ℕ → ℕ → ℕ → Type 0
 Marked before after from to v = (k : ℕ) → get_or after k 0 ≡ cond (leb from k && ltb k to) v (get_or before k 0)
-
-pub mark_more : (before table : List ℕ) (from to v : ℕ) → from ≤ to → to < length table → Marked before table from to v
-    → Marked before (set table to v) from (to + 1) v
-mark_more before table from to v up h was k =
-    ⊎_elim
-    (λ (e : k ≡ to).
-    let here : get_or (set table to v) k 0 ≡ v = ap (λ i. get_or (set table to v) i 0) e ∙ get_or-set_same table to v 0 h in
-    here ∙ covered (get_or before k 0) k e)
-    (λ (ne : k ≡ to → ⊥). get_or-set_other table to k v 0 ne ∙ was k ∙ beside (get_or before k 0) k ne)
-    (cases_eq k to)
-  where
-    covered : (x i : ℕ) → i ≡ to → v ≡ cond (leb from i && ltb i (to + 1)) v x
-    covered x i e = grind (arith, nat_tests)
-
-    beside : (x i : ℕ) → (i ≡ to → ⊥) → cond (leb from i && ltb i to) v x ≡ cond (leb from i && ltb i (to + 1)) v x
-    beside x i ne = grind (arith, nat_tests)
-
-pub mark_end : (before table : List ℕ) (from to place v : ℕ) → place ≤ to → to ≤ place
-    → Marked before table from place v → Marked before table from to v
-mark_end before table from to place v up h was k = let e : place ≡ to = omega arith in rw e at (was k)
 
 -- place m of step i
 pub step_place : (cs : List ℕ) (i m k : ℕ) → m < get_or cs i 0 → k ≡ sum (take i cs) + m → step_of cs k ≡ i

@@ -1,22 +1,23 @@
 -- The greatest value below a bound, and the minimum step distance that the widest gap gives.
-use Rattle.std.proofs.Common.{◌≡◌, ℕ, zero, suc, ◌+◌, ◌-◌, ◌<◌, ◌≤◌, max, Bool, true, false, cond, ◌&&◌, ltb, ◌⊎◌, List, length, refl, ap, ◌∙◌, inl, inr, ⊎_elim, add-one, arith}
+use Rattle.std.proofs.Common.{◌≡◌, ℕ, zero, suc, ◌+◌, ◌-◌, ◌<◌, ◌≤◌, max, Bool, true, false, cond, ◌&&◌, ltb, ◌⊎◌, List, [], ◌∷◌, ◌++◌, length, fold, sym, refl, ap, ◌∙◌, inl, inr, ⊎_elim, add-one, arith}
 use Rattle.interference.specs.declared.transmission.Transmission.{Transmission}
 use Rattle.plan.specs.Approval.{ClearAt, Spaced}
 use Rattle.plan.specs.Drafts.{transmission_at}
 use Rattle.plan.specs.Spacing.{distance_of, gap_of, most_below}
+use Rattle.std.specs.List.{range_with_len}
+use Rattle.std.proofs.lemmas.List.{map-id}
+use Rattle.std.proofs.lemmas.List.FromFn.{map-range_with_len_more}
+use Rattle.std.proofs.lemmas.List.Sums.{fold-append}
 use Rattle.std.proofs.lemmas.Bool.{both_ways, cases_Bool, cases_eq, cases_lt, lt-ltb}
 
 module _ (value : ℕ → ℕ) where
-  pub most_start : 0 ≡ most_below value 0
+  -- the greatest, as the code folds it
+  pub most_folded : (n : ℕ) → fold (λ w k. max (value k) w) 0 (range_with_len 0 n) ≡ most_below value n
   unfolding most_below
-  most_start = refl
-
-  pub most_step : (n w x : ℕ) → w ≡ most_below value n → x ≡ value n → max x w ≡ most_below value (n + 1)
-  unfolding most_below
-  most_step n w x most is = rw (add-one, most, is) refl
-
-  pub most_end : (i n w : ℕ) → i ≡ n → w ≡ most_below value i → w ≡ most_below value n
-  most_end i n w e is = is ∙ ap (most_below value) e
+  most_folded zero = refl
+  most_folded (suc n) =
+      let more : range_with_len 0 (n + 1) ≡ range_with_len 0 n ++ n ∷ [] = sym (map-id _) ∙ map-range_with_len_more (λ k. k) 0 n n (omega arith) ∙ ap (λ l. l ++ n ∷ []) (map-id _) in
+      ap (fold (λ w k. max (value k) w) 0) (rw add-one at more) ∙ fold-append (λ w k. max (value k) w) 0 (range_with_len 0 n) (n ∷ []) ∙ ap (max (value n)) (most_folded n)
 
   -- no value is greater, and the greatest is 0 or one of them
   pub most_bound : (n k : ℕ) → k < n → value k ≤ most_below value n
@@ -43,6 +44,12 @@ module _ (value : ℕ → ℕ) where
 module _ (conflict : Transmission → Transmission → Bool) (ts : List Transmission) (step : ℕ → ℕ) where
   abbrev pub widest_gap : ℕ
   widest_gap = most_below (λ l. most_below (gap_of conflict ts step l) (length ts)) (length ts)
+
+  -- the widest gap, as the code folds it
+  pub widest_folded : fold (λ most l. max (fold (λ w k. max (gap_of conflict ts step l k) w) 0 (range_with_len 0 (length ts))) most) 0 (range_with_len 0 (length ts)) ≡ widest_gap
+  widest_folded =
+      ap (λ (g : ℕ → ℕ). fold (λ most l. max (g l) most) 0 (range_with_len 0 (length ts))) (λ i l. most_folded (gap_of conflict ts step l) (length ts) i)
+      ∙ most_folded (λ l. most_below (gap_of conflict ts step l) (length ts)) (length ts)
 
   gap_is : (l k : ℕ) → step k < step l → conflict (transmission_at ts k) (transmission_at ts l) ≡ true
       → gap_of conflict ts step l k ≡ step l - step k

@@ -5,7 +5,6 @@ use crate::approved::ApprovedPlan;
 use crate::draft::Draft;
 use crate::fault::ApprovalFault;
 use crate::judge::judge;
-use crate::layout::laid_out;
 use interference::model::Interference;
 use interference::transmission::Transmission;
 use routing::link::TreeLink;
@@ -20,7 +19,7 @@ impl ApprovedPlan {
         ensures { plan_of result ≡ empty_plan }
     {
         ApprovedPlan {
-            transmissions: [Transmission { from: 0, to: 0 }; 256],
+            transmissions: [Transmission::default(); 256],
             counts: [0; 256],
             starts: [0; 256],
             size: 0,
@@ -57,6 +56,7 @@ impl ApprovedPlan {
         Ok(&self.transmissions[start..end])
     }
 
+    // The caller lends the place: a rule of the product.
     /// Fills the place with the draft, if it can be approved for the tree and the model; a refusal leaves the place
     /// as it was.
     pub fn approve<M: Interference>(
@@ -67,8 +67,8 @@ impl ApprovedPlan {
     ) -> Result<(), ApprovalFault>
         ensures { ApprovalDone (M.nodes model.now) (M.conflict model.now) tree.now draft.entry.transmissions.now draft.entry.counts.now (plan_of self.old) (plan_of self.new) result }
     {
-        let distance = judge(model, tree, draft)?;
-        *self = laid_out(draft.transmissions, draft.counts, distance);
+        let (shaped, distance) = judge(model, tree, draft)?;
+        *self = shaped.laid_out(distance);
         Ok(())
     }
 }

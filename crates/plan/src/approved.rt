@@ -4,6 +4,7 @@ use interference::transmission::Transmission;
 
 /// A plan that was approved: its transmissions step after step, and for each step how many it has and where they
 /// start. Only approval fills it, so it is what an engine opens with.
+// Arrays beside their lengths, and no ArrayVec: a plan is Copy, which an ArrayVec is not.
 #[derive(Clone, Copy)]
 pub struct ApprovedPlan {
     pub(crate) transmissions: [Transmission; 256],

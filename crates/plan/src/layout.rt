@@ -2,57 +2,45 @@ ghost use Rattle.std.specs.Prelude.{◌≡◌, ℕ, ◌<◌, ◌≤◌, length, 
 ghost use Rattle.plan.specs.Plans.{plan_of};
 
 use crate::approved::ApprovedPlan;
-use interference::transmission::Transmission;
+use crate::shape::Shaped;
 
-/// Where each step starts.
-fn start_table(counts: &[u16]) -> [u16; 256]
-    requires { (length counts.now ≤ 256) × (sum counts.now ≤ 256) }
-    ensures { (k : ℕ) → k < length counts.now → slice_index result k ≡ sum (take k counts.now) }
+/// The items at the front of a table.
+fn table_of<T: Copy + Default>(items: &[T]) -> [T; 256]
+    requires { length items.now ≤ 256 }
+    ensures { take (length items.now) result ≡ items.now }
 {
-    let mut starts = [0; 256];
-    let mut at = 0;
-    for (i, count) in counts.iter().enumerate() {
-        starts[i] = at;
-        at += *count;
+    let mut table = [T::default(); 256];
+    let places = &mut table[..];
+    places[0..items.len()].copy_from_slice(items);
+    table
+}
+
+impl Shaped<'_> {
+    /// Where each step starts.
+    fn start_table(self) -> [u16; 256]
+        ensures { (k : ℕ) → k < length self.entry.counts.now → slice_index result k ≡ sum (take k self.entry.counts.now) }
+    {
+        let mut starts = [0; 256];
+        let mut at = 0;
+        for (i, count) in self.counts.iter().enumerate() {
+            starts[i] = at;
+            at += *count;
+        }
+        starts
     }
-    starts
-}
 
-/// The counts at the front of a table.
-fn count_table(counts: &[u16]) -> [u16; 256]
-    requires { length counts.now ≤ 256 }
-    ensures { take (length counts.now) result ≡ counts.now }
-{
-    let mut table = [0; 256];
-    table[0..counts.len()].copy_from_slice(counts);
-    table
-}
-
-/// The transmissions at the front of a table.
-fn transmission_table(transmissions: &[Transmission]) -> [Transmission; 256]
-    requires { length transmissions.now ≤ 256 }
-    ensures { take (length transmissions.now) result ≡ transmissions.now }
-{
-    let mut table = [Transmission { from: 0, to: 0 }; 256];
-    table[0..transmissions.len()].copy_from_slice(transmissions);
-    table
-}
-
-/// The plan with these steps and this distance.
-pub(crate) fn laid_out(
-    transmissions: &[Transmission],
-    counts: &[u16],
-    distance: u16,
-) -> ApprovedPlan
-    requires { (1 ≤ length counts.now) × ((length counts.now ≤ 256) × ((length transmissions.now ≤ 256) × ((sum counts.now ≡ length transmissions.now) × (1 ≤ distance)))) }
-    ensures { plan_of result ≡ record { transmissions = transmissions.entry.now; counts = counts.now; distance = distance } }
-{
-    ApprovedPlan {
-        transmissions: transmission_table(transmissions),
-        counts: count_table(counts),
-        starts: start_table(counts),
-        size: transmissions.len() as u16,
-        steps: counts.len() as u16,
-        distance,
+    /// The plan with these steps and this distance.
+    pub(crate) fn laid_out(self, distance: u16) -> ApprovedPlan
+        requires { 1 ≤ distance }
+        ensures { plan_of result ≡ record { transmissions = self.entry.transmissions.now; counts = self.entry.counts.now; distance = distance } }
+    {
+        ApprovedPlan {
+            transmissions: table_of(self.transmissions),
+            counts: table_of(self.counts),
+            starts: self.start_table(),
+            size: self.transmissions.len() as u16,
+            steps: self.counts.len() as u16,
+            distance,
+        }
     }
 }

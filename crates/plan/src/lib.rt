@@ -7,5 +7,6 @@ pub mod draft;
 pub mod fault;
 mod judge;
 mod layout;
+mod placed;
 mod shape;
 mod spacing;

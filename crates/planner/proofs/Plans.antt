@@ -66,7 +66,6 @@ module _ (conflict : Transmission → Transmission → Bool) (n : ℕ) (routes :
 
   -- what is left of the slots completes the plan. The two lists were `first` and `former`
   pub record Planning (goal : List (List Transmission)) (first : List Transmission) (former : List ℕ) (left : List ℕ) (remaining sent steps : ℕ) (ts : List Transmission) (cs : List ℕ) : Type 0 where
-    pub held : length left ≡ 64
     pub total : remaining ≡ sum left
     pub kept : sent + remaining ≤ 256
     pub few : steps ≤ 256
@@ -77,10 +76,9 @@ module _ (conflict : Transmission → Transmission → Bool) (n : ℕ) (routes :
     pub long : length ts ≡ length first
     pub wide : length cs ≡ length former
 
-  pub plan_start : (first : List Transmission) (former : List ℕ) (remaining : ℕ) → length routes.slots ≡ 64 → remaining ≡ sum routes.slots → sum routes.slots ≤ 256
+  pub plan_start : (first : List Transmission) (former : List ℕ) (remaining : ℕ) → remaining ≡ sum routes.slots → sum routes.slots ≤ 256
       → Planning (steps_from conflict n routes 256 routes.slots) first former routes.slots remaining 0 0 first former
-  plan_start first former remaining sized is few = record {
-    held = sized;
+  plan_start first former remaining is few = record {
     total = is;
     kept = omega arith;
     few = omega arith;
@@ -103,8 +101,7 @@ module _ {conflict : Transmission → Transmission → Bool} {n : ℕ} {routes :
 
   -- one step more: `after` is what the rest of the list holds then
   module _ (some : 0 < remaining) (below : steps < 256) (size : ℕ) (after : List Transmission) (fewer : List ℕ)
-      (filled : StepFilled (step_from conflict n routes left) (take (length ts - sent) (drop sent ts)) left after fewer size)
-      (same : length fewer ≡ length left) where
+      (filled : StepFilled (step_from conflict n routes left) (take (length ts - sent) (drop sent ts)) left after fewer size) where
     -- the step, and the steps after it
     abbrev step : List Transmission
     step = (step_from conflict n routes left).sent
@@ -124,7 +121,6 @@ module _ {conflict : Transmission → Transmission → Bool} {n : ℕ} {routes :
         let fits : sent + size ≤ length ts = omega (arith, was.kept, was.long, was.total, filled.used) in
         let wide : steps < length cs = omega (arith, was.wide) in
         record {
-          held = same ∙ was.held;
           total = omega (arith, was.total, filled.used);
           kept = omega (arith, was.kept, was.total, filled.used);
           few = omega arith;

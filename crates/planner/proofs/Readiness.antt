@@ -1,17 +1,26 @@
 -- The nodes that may transmit: the table of nodes with an unfinished child, and the candidates by number.
-use Rattle.std.proofs.Common.{◌≡◌, ℕ, ◌+◌, ◌<◌, ◌≤◌, Bool, true, false, cond, not, ◌&&◌, ◌||◌, eqb, ltb, List, [], ◌∷◌, ◌++◌, map, length, get_or, take, set, replicate, Ok, Err, filter, Result, sym, refl, ap, ◌∙◌, ⊎_elim, add-one, arith, MatchResult}
+use Rattle.std.proofs.Common.{◌≡◌, ℕ, ◌+◌, ◌<◌, ◌≤◌, Bool, true, false, cond, not, ◌&&◌, ◌||◌, eqb, ltb, List, [], ◌∷◌, ◌++◌, map, length, get_or, set, replicate, Ok, Err, filter, Result, sym, refl, ap, ◌∙◌, ⊎_elim, add-one, arith, MatchResult}
 use Rattle.planner.specs.declared.candidate.Candidate.{Candidate}
 use Rattle.planner.specs.Planner.{candidate_of, deeper, is_awaiting, is_ready}
-use Rattle.queue.specs.Heap.{Heap, Pushed}
+use Rattle.queue.specs.Order.{Order}
+use Rattle.queue.specs.Ranked.{placed, ranked}
+use Rattle.queue.proofs.Ranked.{length-placed, pushed}
 use Rattle.routing.proofs.Searches.{any_start}
 use Rattle.routing.specs.Search.{any_below}
 use Rattle.std.proofs.lemmas.List.Elements.{filter-append}
 use Rattle.std.proofs.lemmas.List.FromFn.{map-range_with_len_more}
 use Rattle.std.proofs.lemmas.List.{append-nil, get_or-replicate, get_or-set_other, get_or-set_same, map-append, map-id}
-use Rattle.std.proofs.lemmas.List.Sorted.{IsPermutation-cons, IsPermutation-refl, IsPermutation-to_front, IsPermutation-trans}
+use Rattle.std.proofs.lemmas.List.Sorted.{IsPermutation-refl}
+use Rattle.std.proofs.lemmas.Bool.Decides.{nat_tests}
 use Rattle.std.proofs.lemmas.Bool.{and_left, and_right, cases_eq, eq-eqb, le-ltb, lt-ltb, ne_eqb}
 use Rattle.std.specs.List.{range_with_len}
-use Rattle.std.specs.List.Sorted.{IsPermutation}
+
+pub deeper_order : Order deeper
+deeper_order = record {
+  asymmetric = λ x y h. grind (arith, nat_tests);
+  chain = λ x y z h k. grind (arith, nat_tests);
+  total = λ x y h k. grind (arith, nat_tests);
+}
 
 any_more : (test : ℕ → Bool) (n : ℕ) → any_below test (n + 1) ≡ (any_below test n || test n)
 unfolding any_below
@@ -84,36 +93,34 @@ module _ (test : ℕ → Bool) (depths : List ℕ) where
       ∙ ap (map (candidate_of depths)) (filter-append test (range_with_len 0 v) (v ∷ []))
       ∙ map-append (candidate_of depths) (filter test (range_with_len 0 v)) (cond (test v) (v ∷ []) [])
 
-  pub record Gathering (v waiting : ℕ) (places : List Candidate) : Type 0 where
-    pub few : waiting ≤ v
-    pub heaped : Heap deeper (take waiting places)
-    pub holds : IsPermutation (passing v) (take waiting places)
+  -- the candidates below v wait, in rank order
+  pub record Gathering (v : ℕ) (queue : List Candidate) : Type 0 where
+    pub few : length queue ≤ v
+    pub holds : queue ≡ ranked deeper (passing v)
 
-  pub gather_start : (places : List Candidate) → Gathering 0 0 places
-  gather_start places = record { few = omega arith; heaped = λ k d h. absurd (omega arith); holds = IsPermutation-refl [] }
+  pub gather_start : Gathering 0 []
+  gather_start = record { few = omega arith; holds = refl }
 
-  pub gather_none : (v waiting : ℕ) (places : List Candidate) → test v ≡ false → Gathering v waiting places → Gathering (v + 1) waiting places
-  gather_none v waiting places miss was =
+  pub gather_none : (v : ℕ) (queue : List Candidate) → test v ≡ false → Gathering v queue → Gathering (v + 1) queue
+  gather_none v queue miss was =
       let same : passing (v + 1) ≡ passing v = passing_more v ∙ ap (λ b. passing v ++ map (candidate_of depths) (cond b (v ∷ []) [])) miss ∙ append-nil _ in
-      record { few = omega (arith, was.few); heaped = was.heaped; holds = rw same was.holds }
+      record { few = omega (arith, was.few); holds = rw same was.holds }
 
-  pub gather_more : (v waiting : ℕ) (places after : List Candidate) → test v ≡ true → Gathering v waiting places
-      → Pushed deeper (candidate_of depths v) waiting places after → Gathering (v + 1) (waiting + 1) after
-  gather_more v waiting places after hit was put =
-      let more : passing (v + 1) ≡ passing v ++ candidate_of depths v ∷ [] = passing_more v ∙ ap (λ b. passing v ++ map (candidate_of depths) (cond b (v ∷ []) [])) hit in
+  pub gather_more : (v : ℕ) (queue after : List Candidate) → test v ≡ true → Gathering v queue
+      → after ≡ placed deeper (candidate_of depths v) queue → Gathering (v + 1) after
+  gather_more v queue after hit was put =
+      let x = candidate_of depths v in
+      let more : passing (v + 1) ≡ passing v ++ x ∷ [] = passing_more v ∙ ap (λ b. passing v ++ map (candidate_of depths) (cond b (v ∷ []) [])) hit in
       record {
-        few = omega (arith, was.few);
-        heaped = put.heaped was.heaped;
-        holds =
-            rw more (IsPermutation-trans _ _ _ (IsPermutation-to_front (passing v) (candidate_of depths v))
-            (IsPermutation-trans _ _ _ (IsPermutation-cons _ _ _ was.holds) put.holds));
+        few = omega (arith, was.few, ap length put, length-placed deeper x queue);
+        holds = put ∙ ap (placed deeper x) was.holds ∙ sym (ap (ranked deeper) more ∙ pushed deeper deeper_order (passing v) (passing v ++ x ∷ []) x (IsPermutation-refl _));
       }
 
-  pub gather-all : (v n waiting : ℕ) (places : List Candidate) → v ≡ n → Gathering v waiting places → IsPermutation (passing n) (take waiting places)
-  gather-all v n waiting places e was = rw (← e) was.holds
+  pub gather-all : (v n : ℕ) (queue : List Candidate) → v ≡ n → Gathering v queue → queue ≡ ranked deeper (passing n)
+  gather-all v n queue e was = rw (← e) was.holds
 
 -- where there is room, the queue takes it
-pub accepted : {T E : Type 0} (r : Result T E) (x : Candidate) (n : ℕ) (xs ys : List Candidate)
-    → MatchResult r (λ _. Pushed deeper x n xs ys) (λ _. (length xs ≤ n) × (ys ≡ xs)) → n < length xs → Pushed deeper x n xs ys
-accepted (Ok y) x n xs ys h room = h
-accepted (Err y) x n xs ys h room = absurd (omega arith)
+pub accepted : {T E : Type 0} (r : Result T E) (x : Candidate) (xs ys : List Candidate)
+    → MatchResult r (λ _. (length xs < 64) × (ys ≡ placed deeper x xs)) (λ _. (length xs ≡ 64) × (ys ≡ xs)) → length xs < 64 → ys ≡ placed deeper x xs
+accepted (Ok y) x xs ys h room = h.1
+accepted (Err y) x xs ys h room = absurd (omega arith)

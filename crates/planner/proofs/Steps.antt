@@ -1,50 +1,25 @@
 -- One step while it is filled.
-use Rattle.std.proofs.Common.{◌≡◌, ℕ, ◌+◌, ◌-◌, ◌<◌, ◌≤◌, Bool, true, false, not, ◌&&◌, ltb, ◌⊎◌, List, [], ◌∷◌, ◌++◌, length, get_or, take, drop, set, sum, filter, sym, refl, ap, ◌∙◌, ⊎_elim, arith}
+use Rattle.std.proofs.Common.{◌≡◌, ℕ, ◌+◌, ◌-◌, ◌<◌, ◌≤◌, Bool, true, false, not, ◌&&◌, ltb, List, [], ◌∷◌, ◌++◌, length, get_or, take, drop, set, sum, filter, sym, refl, ap, ◌∙◌, ⊎_elim, arith}
 use Rattle.interference.specs.declared.transmission.Transmission.{Transmission}
 use Rattle.interference.specs.Transmissions.{share}
 use Rattle.planner.specs.declared.candidate.Candidate.{Candidate}
 use Rattle.planner.specs.Filled.{StepFilled}
 use Rattle.planner.specs.Planner.{Filling, candidate_of, deeper, is_free, is_ready, join, join_all, step_from, to_parent, candidates, is_awaiting}
-use Rattle.queue.specs.Heap.{Heap, Popped}
-use Rattle.queue.specs.Order.{Order}
 use Rattle.queue.specs.Ranked.{ranked}
-use Rattle.queue.proofs.Ranked.{popped_ranked, ranked_shuffled}
+use Rattle.queue.proofs.Ranked.{shuffled_ranked}
 use Rattle.routing.specs.declared.routes.Routes.{Routes}
 use Rattle.std.proofs.lemmas.List.FromFn.{get_or-range_with_len, length-range_with_len}
 use Rattle.std.proofs.ByRecursion.{All-from_get_or, All-map, All-weaker, all_shuffled}
-use Rattle.std.proofs.lemmas.List.{at_drop_all, at_drop_more, drop-drop, drop-set-lt, get_or-set_other, length-set, length-take-le, take-append-drop, take_more_set}
+use Rattle.std.proofs.lemmas.List.{drop-drop, drop-set-lt, get_or-set_other, length-set, length-take-le, take-append-drop, take_more_set}
 use Rattle.std.proofs.lemmas.List.Sums.{get_or-le-sum_by, sum_by-set}
 use Rattle.std.proofs.lemmas.Bool.{and_from, and_parts, cases_Bool, eq-eqb, ltb-true, not-true}
-use Rattle.std.proofs.lemmas.Bool.Decides.{nat_tests}
-use Rattle.std.specs.List.{range_with_len, AllByRecursion}
-use Rattle.std.specs.List.Sorted.{IsPermutation}
+use Rattle.std.specs.List.{list_all, range_with_len, AllByRecursion}
 
-pub deeper_order : Order deeper
-deeper_order = record {
-  asymmetric = λ x y h. grind (arith, nat_tests);
-  chain = λ x y z h k. grind (arith, nat_tests);
-  total = λ x y h k. grind (arith, nat_tests);
-}
-
-module _ (conflict : Transmission → Transmission → Bool) (t : Transmission) where
-  abbrev pub transmission_at : List Transmission → ℕ → Transmission
-  transmission_at ts i = get_or ts i (record { from = 0; to = 0 })
-
-  free_at : (ts : List Transmission) (i : ℕ) → i < length ts
-      → is_free conflict (drop i ts) t ≡ (not (conflict (transmission_at ts i) t) && is_free conflict (drop (i + 1) ts) t)
-  free_at ts i h = at_drop_more (λ rest. is_free conflict rest t) ts i (record { from = 0; to = 0 }) h
-
-  pub free_hit : (ts : List Transmission) (i : ℕ) → i < length ts → true ≡ conflict (transmission_at ts i) t
-      → is_free conflict (drop i ts) t ≡ is_free conflict ts t → false ≡ is_free conflict ts t
-  free_hit ts i h hit inv = sym (sym inv ∙ free_at ts i h ∙ ap (λ b. not b && is_free conflict (drop (i + 1) ts) t) (sym hit))
-
-  pub free_more : (ts : List Transmission) (i : ℕ) → i < length ts → false ≡ conflict (transmission_at ts i) t
-      → is_free conflict (drop i ts) t ≡ is_free conflict ts t → is_free conflict (drop (i + 1) ts) t ≡ is_free conflict ts t
-  free_more ts i h miss inv = sym (free_at ts i h ∙ ap (λ b. not b && is_free conflict (drop (i + 1) ts) t) (sym miss)) ∙ inv
-
-  pub free_all : (ts : List Transmission) (i : ℕ) → length ts ≤ i
-      → is_free conflict (drop i ts) t ≡ is_free conflict ts t → true ≡ is_free conflict ts t
-  free_all ts i h inv = sym (at_drop_all (λ rest. is_free conflict rest t) ts i h) ∙ inv
+-- a step that the transmission is free of, as the code asks it
+free_of : (conflict : Transmission → Transmission → Bool) (t : Transmission) (ts : List Transmission)
+    → list_all (λ s. not (conflict s t)) ts ≡ is_free conflict ts t
+free_of conflict t [] = refl
+free_of conflict t (s ∷ ts) = ap (λ b. not (conflict s t) && b) (free_of conflict t ts)
 
 -- ---- the candidates that still wait
 
@@ -59,12 +34,9 @@ module _ (conflict : Transmission → Transmission → Bool) (parents : List ℕ
   so_far size out left = record { sent = take size out; left = left }
 
   -- what waits completes the step. The two lists were `first` and `start`
-  pub record Joining (goal : Filling) (first : List Transmission) (start : List ℕ) (places : List Candidate) (waiting size : ℕ) (out : List Transmission) (left : List ℕ) : Type 0 where
-    pub held : length places ≡ 64
-    pub few : waiting ≤ 64
-    pub heaped : Heap deeper (take waiting places)
-    pub able : AllByRecursion (Able (so_far size out left)) (take waiting places)
-    pub leads : join_all conflict parents (ranked deeper (take waiting places)) (so_far size out left) ≡ goal
+  pub record Joining (goal : Filling) (first : List Transmission) (start : List ℕ) (queue : List Candidate) (size : ℕ) (out : List Transmission) (left : List ℕ) : Type 0 where
+    pub able : AllByRecursion (Able (so_far size out left)) queue
+    pub leads : join_all conflict parents queue (so_far size out left) ≡ goal
     pub long : length out ≡ length first
     pub room : size ≤ length first
     pub rest : drop size out ≡ drop size first
@@ -113,30 +85,32 @@ module _ (conflict : Transmission → Transmission → Bool) (parents : List ℕ
 -- ---- a turn and the end
 
 module _ {conflict : Transmission → Transmission → Bool} {parents : List ℕ} {goal : Filling} {first : List Transmission} {start : List ℕ}
-    {places : List Candidate} {waiting size : ℕ} {out : List Transmission} {left : List ℕ}
-    (was : Joining conflict parents goal first start places waiting size out left) where
+    {queue : List Candidate} {size : ℕ} {out : List Transmission} {left : List ℕ}
+    (was : Joining conflict parents goal first start queue size out left) where
   -- c comes out of the queue
-  module _ {after : List Candidate} (c : Candidate) (taken : Popped deeper c waiting places after) (same : length after ≡ length places) where
-    others : AllByRecursion (Able conflict parents (so_far conflict parents size out left)) (c ∷ take (waiting - 1) after)
-    others = all_shuffled (Able conflict parents (so_far conflict parents size out left)) _ _ taken.holds was.able
+  module _ {after : List Candidate} (c : Candidate) (taken : queue ≡ c ∷ after) where
+    others : AllByRecursion (Able conflict parents (so_far conflict parents size out left)) (c ∷ after)
+    others = rw taken at was.able
 
-    next : join_all conflict parents (ranked deeper (take (waiting - 1) after)) (join conflict parents c (so_far conflict parents size out left)) ≡ goal
-    next = sym (ap (λ cs. join_all conflict parents cs (so_far conflict parents size out left)) (popped_ranked deeper deeper_order c waiting places after was.heaped taken)) ∙ was.leads
+    next : join_all conflict parents after (join conflict parents c (so_far conflict parents size out left)) ≡ goal
+    next = sym (ap (λ cs. join_all conflict parents cs (so_far conflict parents size out left)) taken) ∙ was.leads
 
     pub join_within : c.node < length start
     join_within = omega (arith, others.0.within, was.count)
 
     -- the code asks of `&out[0..size]`
-    asked : (b : Bool) → b ≡ is_free conflict (take (size - 0) out) (to_parent parents c.node) → is_free conflict (take size out) (to_parent parents c.node) ≡ b
-    asked b e = let all : size ≡ size - 0 = omega arith in ap (λ k. is_free conflict (take k out) (to_parent parents c.node)) all ∙ sym e
+    abbrev joins : Bool
+    joins = list_all (λ s. not (conflict s (to_parent parents c.node))) (take (size - 0) out)
 
-    pub join_none : false ≡ is_free conflict (take (size - 0) out) (to_parent parents c.node) → Joining conflict parents goal first start after (waiting - 1) size out left
+    asked : (b : Bool) → b ≡ joins → is_free conflict (take size out) (to_parent parents c.node) ≡ b
+    asked b e =
+        let all : size ≡ size - 0 = omega arith in
+        ap (λ k. is_free conflict (take k out) (to_parent parents c.node)) all ∙ sym (free_of conflict (to_parent parents c.node) (take (size - 0) out)) ∙ sym e
+
+    pub join_none : false ≡ joins → Joining conflict parents goal first start after size out left
     join_none held = record {
-      held = same ∙ was.held;
-      few = omega (arith, was.few);
-      heaped = taken.heaped was.heaped;
       able = others.1;
-      leads = sym (ap (join_all conflict parents (ranked deeper (take (waiting - 1) after))) (join_held conflict parents c (so_far conflict parents size out left) (asked false held))) ∙ next;
+      leads = sym (ap (join_all conflict parents after) (join_held conflict parents c (so_far conflict parents size out left) (asked false held))) ∙ next;
       long = was.long;
       room = was.room;
       rest = was.rest;
@@ -144,7 +118,7 @@ module _ {conflict : Transmission → Transmission → Bool} {parents : List ℕ
       kept = was.kept;
     }
 
-    module _ (free : true ≡ is_free conflict (take (size - 0) out) (to_parent parents c.node)) where
+    module _ (free : true ≡ joins) where
       pub join_slots : 0 < get_or left c.node 0
       join_slots = others.0.slots (asked true free)
 
@@ -152,20 +126,17 @@ module _ {conflict : Transmission → Transmission → Bool} {parents : List ℕ
       join_room fits = omega (arith, was.kept, was.long, join_slots, get_or-le-sum_by (λ x. x) left c.node 0 others.0.within)
 
       pub join_more : ((a b : Transmission) → share a b ≡ true → conflict a b ≡ true) → sum start ≤ length first
-          → Joining conflict parents goal first start after (waiting - 1) (size + 1) (set out size (to_parent parents c.node)) (set left c.node (get_or left c.node 0 - 1))
+          → Joining conflict parents goal first start after (size + 1) (set out size (to_parent parents c.node)) (set left c.node (get_or left c.node 0 - 1))
       join_more shared fits =
           let t = to_parent parents c.node in
           let less : List ℕ = set left c.node (get_or left c.node 0 - 1) in
           let roomy : size < length out = join_room fits in
           let front : take (size + 1) (set out size t) ≡ take size out ++ t ∷ [] = take_more_set out size t roomy in
           record {
-            held = same ∙ was.held;
-            few = omega (arith, was.few);
-            heaped = taken.heaped was.heaped;
             able =
                 rw front (All-weaker (Able conflict parents (so_far conflict parents size out left)) (Able conflict parents (record { sent = take size out ++ t ∷ []; left = less }))
                 (able-more conflict parents shared (take size out) left c.node) _ others.1);
-            leads = rw front (sym (ap (join_all conflict parents (ranked deeper (take (waiting - 1) after))) (join_free conflict parents c (so_far conflict parents size out left) (asked true free))) ∙ next);
+            leads = rw front (sym (ap (join_all conflict parents after) (join_free conflict parents c (so_far conflict parents size out left) (asked true free))) ∙ next);
             long = length-set out size t ∙ was.long;
             room = omega (arith, was.long);
             rest =
@@ -175,12 +146,9 @@ module _ {conflict : Transmission → Transmission → Bool} {parents : List ℕ
           }
 
   -- the queue is empty
-  module _ (empty : (waiting ≡ 0) ⊎ (length places < waiting)) where
-    none : waiting ≡ 0
-    none = ⊎_elim (λ (e : waiting ≡ 0). e) (λ (short : length places < waiting). absurd (omega (arith, was.held, was.few))) empty
-
+  module _ (empty : queue ≡ []) where
     done : so_far conflict parents size out left ≡ goal
-    done = sym (ap (λ k. join_all conflict parents (ranked deeper (take k places)) (so_far conflict parents size out left)) none) ∙ was.leads
+    done = sym (ap (λ cs. join_all conflict parents cs (so_far conflict parents size out left)) empty) ∙ was.leads
 
     sized : size ≡ length goal.sent
     sized = sym (ap (λ f. length f.sent) (sym done) ∙ length-take-le size out (omega (arith, was.room, was.long)))
@@ -204,27 +172,22 @@ all_kept P test (x ∷ xs) each =
     (cases_Bool (test x))
 
 -- all candidates are able as a step begins
-pub join_start : (conflict : Transmission → Transmission → Bool) (routes : Routes) (k n waiting : ℕ) (places : List Candidate) (out : List Transmission) (left : List ℕ)
-    → k ≡ n → n ≤ 64 → length left ≡ 64 → length places ≡ 64 → waiting ≤ length places → Heap deeper (take waiting places)
-    → IsPermutation (candidates routes left k) (take waiting places)
-    → Joining conflict routes.parents (step_from conflict n routes left) out left places waiting 0 out left
-join_start conflict routes k n waiting places out left same most sized held few heaped given =
-    let holds : IsPermutation (candidates routes left n) (take waiting places) = rw (← same) given in record {
-      held = held;
-      few = omega arith;
-      heaped = heaped;
-      able =
-          all_shuffled (Able conflict routes.parents (record { sent = []; left = left })) _ _ holds
-          (All-map (Able conflict routes.parents (record { sent = []; left = left })) (candidate_of routes.depths) _
-          (all_kept _ (is_ready routes.parents left n) (range_with_len 0 n)
-          (All-from_get_or _ (range_with_len 0 n) 0
-          (λ i h.
-          let below : i < n = omega (arith, length-range_with_len 0 n) in
-          rw (get_or-range_with_len 0 n i 0 below) (able_start conflict routes.parents routes.depths left n (0 + i) (omega arith))))));
-      leads = ap (λ cs. join_all conflict routes.parents cs (record { sent = []; left = left })) (sym (ranked_shuffled deeper deeper_order _ _ holds));
-      long = refl;
-      room = omega arith;
-      rest = refl;
-      count = refl;
-      kept = omega arith;
-    }
+pub join_start : (conflict : Transmission → Transmission → Bool) (routes : Routes) (n : ℕ) (queue : List Candidate) (out : List Transmission) (left : List ℕ)
+    → n ≤ 64 → length left ≡ 64 → queue ≡ ranked deeper (candidates routes left n)
+    → Joining conflict routes.parents (step_from conflict n routes left) out left queue 0 out left
+join_start conflict routes n queue out left most sized is = record {
+  able =
+      rw is (all_shuffled (Able conflict routes.parents (record { sent = []; left = left })) _ _ (shuffled_ranked deeper (candidates routes left n))
+      (All-map (Able conflict routes.parents (record { sent = []; left = left })) (candidate_of routes.depths) _
+      (all_kept _ (is_ready routes.parents left n) (range_with_len 0 n)
+      (All-from_get_or _ (range_with_len 0 n) 0
+      (λ i h.
+      let below : i < n = omega (arith, length-range_with_len 0 n) in
+      rw (get_or-range_with_len 0 n i 0 below) (able_start conflict routes.parents routes.depths left n (0 + i) (omega arith)))))));
+  leads = ap (λ cs. join_all conflict routes.parents cs (record { sent = []; left = left })) is;
+  long = refl;
+  room = omega arith;
+  rest = refl;
+  count = refl;
+  kept = omega arith;
+}

@@ -16,7 +16,7 @@ use Rattle.std.specs.Option.{option_map}
 
 -- the deeper candidate ranks first, then the one with the smaller number
 abbrev pub deeper : Candidate → Candidate → Bool
-deeper a b = nat_lt b.depth a.depth || (b.depth == a.depth && nat_lt a.node b.node)
+deeper a b = nat_lt b.depth.0 a.depth.0 || (b.depth.0 == a.depth.0 && nat_lt a.node b.node)
 
 -- a child of node v has slots left
 abbrev pub is_awaiting : List ℕ → List ℕ → ℕ → ℕ → Bool
@@ -27,7 +27,7 @@ abbrev pub is_ready : List ℕ → List ℕ → ℕ → ℕ → Bool
 is_ready parents left n v = nat_lt 0 (slice_index left v) && not (is_awaiting parents left n v)
 
 abbrev pub candidate_of : List ℕ → ℕ → Candidate
-candidate_of depths v = record { depth = slice_index depths v; node = v }
+candidate_of depths v = record { depth = record { 0 = slice_index depths v }; node = v }
 
 -- the candidates of a step, by number
 abbrev pub candidates : Routes → List ℕ → ℕ → List Candidate

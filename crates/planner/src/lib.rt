@@ -5,4 +5,5 @@ pub mod candidate;
 pub mod fault;
 pub mod planner;
 mod ready;
+mod site;
 mod step;

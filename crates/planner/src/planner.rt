@@ -1,14 +1,13 @@
-ghost use Rattle.std.specs.Prelude.{◌≡◌, ◌<◌, ◌≤◌, length, sum};
+ghost use Rattle.std.specs.Prelude.{◌≡◌, ◌≤◌, length, sum};
 ghost use Rattle.planner.specs.Filled.{StepsFilled};
 ghost use Rattle.planner.specs.Planner.{PlanDone, steps_from};
-ghost use Rattle.std.specs.List.{AllByRecursion};
 
 use crate::fault::PlanFault;
-use crate::step::fill_step;
+use crate::site::Site;
 use interference::model::Interference;
 use interference::transmission::Transmission;
 use routing::link::TreeLink;
-use routing::routes::{Routes, read_tree};
+use routing::routes::read_tree;
 
 /// How many transmissions and steps a plan has.
 #[derive(Clone, Copy, PartialEq, Eq, Debug)]
@@ -17,42 +16,39 @@ pub struct PlanSize {
     pub steps: usize,
 }
 
-/// The slots of all nodes.
-fn total_slots(slots: &[u8]) -> usize
-    requires { sum slots.now ≤ 256 }
-    ensures { result ≡ sum slots.now }
-{
-    let mut total = 0;
-    for k in slots {
-        total += *k as usize;
+impl<M: Interference> Site<'_, M> {
+    /// The slots of all nodes.
+    fn total_slots(&self) -> usize
+        ensures { result ≡ sum self.now.routes.now.slots }
+    {
+        self.routes.slots.iter().map(|k| usize::from(*k)).sum()
     }
-    total
-}
 
-/// Fills step after step until no slot is left.
-fn fill_steps<M: Interference>(
-    model: &M,
-    routes: &Routes,
-    transmissions: &mut [Transmission],
-    counts: &mut [u16],
-) -> PlanSize
-    requires { (256 ≤ length transmissions.old) × ((256 ≤ length counts.old) × ((sum routes.now.slots ≤ 256) × (AllByRecursion (λ p. p < 64) routes.now.parents))) }
-    ensures { StepsFilled (steps_from (M.conflict model.now) (M.nodes model.now) routes.now 256 routes.now.slots) transmissions.old counts.old transmissions.new counts.new result }
-{
-    let mut left = routes.slots;
-    let mut remaining = total_slots(&routes.slots);
-    let mut sent = 0;
-    let mut steps = 0;
-    while remaining > 0 && steps < 256 {
-        let size = fill_step(model, routes, &mut left, &mut transmissions[sent..]);
-        counts[steps] = size as u16;
-        remaining -= size;
-        sent += size;
-        steps += 1;
-    }
-    PlanSize {
-        transmissions: sent,
-        steps,
+    /// Fills step after step until no slot is left.
+    fn fill_steps(&self, transmissions: &mut [Transmission], counts: &mut [u16]) -> PlanSize
+        requires { (256 ≤ length transmissions.old) × (256 ≤ length counts.old) }
+        ensures { StepsFilled (steps_from (M.conflict self.now.model.now) (M.nodes self.now.model.now) self.now.routes.now 256 self.now.routes.now.slots) transmissions.old counts.old transmissions.new counts.new result }
+    {
+        let mut left = self.routes.slots;
+        let mut remaining = self.total_slots();
+        let mut sent = 0;
+        // By number, since the number of steps is answered, and each turn writes to both lists.
+        for steps in 0..256 {
+            if remaining == 0 {
+                return PlanSize {
+                    transmissions: sent,
+                    steps,
+                };
+            }
+            let size = self.fill_step(&mut left, &mut transmissions[sent..]);
+            counts[steps] = size as u16;
+            remaining -= size;
+            sent += size;
+        }
+        PlanSize {
+            transmissions: sent,
+            steps: 256,
+        }
     }
 }
 
@@ -76,5 +72,9 @@ pub fn plan<M: Interference>(
             steps: 1,
         });
     }
-    Ok(fill_steps(model, &routes, transmissions, counts))
+    let site = Site {
+        model,
+        routes: &routes,
+    };
+    Ok(site.fill_steps(transmissions, counts))
 }

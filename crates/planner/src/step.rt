@@ -1,52 +1,52 @@
-ghost use Rattle.std.specs.Prelude.{◌≡◌, ◌<◌, ◌≤◌, length, sum};
+ghost use Rattle.std.specs.Prelude.{◌≡◌, ◌<◌, ◌≤◌, not, length, sum};
 ghost use Rattle.planner.specs.Filled.{StepFilled};
-ghost use Rattle.planner.specs.Planner.{is_free, step_from};
-ghost use Rattle.std.specs.List.{AllByRecursion};
+ghost use Rattle.planner.specs.Planner.{step_from, to_parent};
+ghost use Rattle.std.specs.List.{list_all};
 
-use crate::candidate::Candidate;
-use crate::ready::gather;
+use crate::site::Site;
 use interference::model::Interference;
 use interference::transmission::Transmission;
-use queue::pop;
-use routing::routes::Routes;
 
 /// Whether the transmission conflicts with none of these.
 fn is_free<M: Interference>(model: &M, sent: &[Transmission], t: Transmission) -> bool
-    ensures { result ≡ is_free (M.conflict model.now) sent.now t }
+    ensures { result ≡ list_all (λ s. not (M.conflict model.now s t)) sent.now }
 {
-    for s in sent {
-        if model.conflicts(*s, t) {
-            return false;
-        }
-    }
-    true
+    sent.iter().all(
+        |s| -> bool
+            ensures { result ≡ not (M.conflict model.entry.now s.now t) }
+        { !model.conflicts(*s, t) },
+    )
 }
 
-/// Fills one step: writes its transmissions from the front of the list, counts the slots down, and answers how
-/// many transmissions the step has.
-pub(crate) fn fill_step<M: Interference>(
-    model: &M,
-    routes: &Routes,
-    left: &mut [u8],
-    out: &mut [Transmission],
-) -> usize
-    requires { (length left.old ≡ 64) × ((sum left.old ≤ length out.old) × (AllByRecursion (λ p. p < 64) routes.now.parents)) }
-    ensures { StepFilled (step_from (M.conflict model.now) (M.nodes model.now) routes.now left.old) out.old left.old out.new left.new result }
-{
-    let mut places = [Candidate { depth: 0, node: 0 }; 64];
-    let mut waiting = gather(routes, left, model.nodes() as usize, &mut places);
-    let mut size = 0;
-    while let Some(candidate) = pop(&mut places, waiting) {
-        waiting -= 1;
-        let t = Transmission {
-            from: candidate.node,
-            to: routes.parents[candidate.node as usize],
-        };
-        if is_free(model, &out[0..size], t) {
-            out[size] = t;
-            size += 1;
-            left[candidate.node as usize] -= 1;
+impl<M: Interference> Site<'_, M> {
+    /// The node's transmission to its parent.
+    fn to_parent(&self, node: u8) -> Transmission
+        requires { node < 64 }
+        ensures { result ≡ to_parent self.now.routes.now.parents node }
+    {
+        Transmission {
+            from: node,
+            to: self.routes.parents[usize::from(node)],
         }
     }
-    size
+
+    /// Fills one step: writes its transmissions from the front of the list, counts the slots down, and answers how
+    /// many transmissions the step has.
+    pub(crate) fn fill_step(&self, left: &mut [u8; 64], out: &mut [Transmission]) -> usize
+        requires { sum left.old ≤ length out.old }
+        ensures { StepFilled (step_from (M.conflict self.now.model.now) (M.nodes self.now.model.now) self.now.routes.now left.old) out.old left.old out.new left.new result }
+    {
+        let mut ready = self.candidates(left);
+        // The list is lent, and what it holds is counted beside it: a caller's list is no ArrayVec.
+        let mut size = 0;
+        while let Some(candidate) = ready.pop() {
+            let t = self.to_parent(candidate.node);
+            if is_free(self.model, &out[0..size], t) {
+                out[size] = t;
+                size += 1;
+                left[usize::from(candidate.node)] -= 1;
+            }
+        }
+        size
+    }
 }

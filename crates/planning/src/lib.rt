@@ -19,6 +19,7 @@ use routing::link::TreeLink;
 
 /// Plans a tree and fills the place with the plan, approved for the model. Only the tree can be refused, and the place
 /// is then as it was: what the planner makes from a sound tree is always approved.
+// The caller lends the place that the plan fills: a rule of the product.
 pub fn make_plan<M: Interference>(
     place: &mut ApprovedPlan,
     tree: &[TreeLink],
@@ -27,8 +28,9 @@ pub fn make_plan<M: Interference>(
     ensures made { Made (M.nodes model.now) (M.conflict model.now) tree.now (plan_of place.old) (plan_of place.new) result }
     ensures always { tree_fault (M.nodes model.now) tree.now ≡ None → PlanApproved (M.nodes model.now) (M.conflict model.now) tree.now }
 {
-    let mut transmissions = [Transmission { from: 0, to: 0 }; 256];
+    let mut transmissions = [Transmission::default(); 256];
     let mut counts = [0; 256];
+    // Of the two refusals one is passed on and one cannot be, which no `?` says.
     let PlanSize {
         transmissions: sent,
         steps,
@@ -41,6 +43,7 @@ pub fn make_plan<M: Interference>(
         transmissions: &transmissions[0..sent],
         counts: &counts[0..steps],
     };
+    // Nor here.
     match place.approve(tree, draft, model) {
         Ok(()) => Ok(()),
         Err(ApprovalFault::Tree(fault)) => Err(fault),

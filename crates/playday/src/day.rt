@@ -1,6 +1,7 @@
 use engine::state::Engine;
 use rules::refusal::Refusal;
 use rules::round::Line;
+use std::fmt;
 
 /// A query that staff ask for.
 #[derive(Clone, Copy)]
@@ -35,6 +36,7 @@ fn keep(engine: &mut Engine, query: Wanted) -> Result<u32, Refusal> {
 }
 
 /// Books a query and withdraws the booking.
+// Apart from `keep`: that it is never refused is known of these two calls, and not of a closure that stands for them
 fn give_up(engine: &mut Engine, query: Wanted) -> Result<u32, Refusal> {
     let booking = engine.book(query.priority, query.period, query.deadline)?;
     let number = booking.number();
@@ -44,91 +46,77 @@ fn give_up(engine: &mut Engine, query: Wanted) -> Result<u32, Refusal> {
     }
 }
 
-/// A refusal in a line: its number, and the query that it names.
-fn print_refusal(rt: &HostRuntime, what: &str, why: Refusal) -> anyhow::Result<()> {
-    let code = why.code();
-    match why.named() {
-        Some(number) => println!(rt; "{what}: refused {code}, naming query {number}")?,
-        None => println!(rt; "{what}: refused {code}")?,
-    }
-    Ok(())
+/// What is answered.
+#[derive(Clone, Copy)]
+enum Answer {
+    Query(u32),
+    WouldBe(u32),
+    Wait(u32, u64),
+    Refused(Refusal),
 }
 
-/// What was answered with a number.
-fn print_numbered(
-    rt: &HostRuntime,
-    what: &str,
-    said: &str,
-    r: Result<u32, Refusal>,
-) -> anyhow::Result<()> {
-    match r {
-        Ok(number) => println!(rt; "{what}: {said} {number}")?,
-        Err(why) => print_refusal(rt, what, why)?,
+impl fmt::Display for Act {
+    fn fmt<W: fmt::Write>(&self, f: &mut fmt::Formatter<W>) -> fmt::Result {
+        f.write_str(match self {
+            Act::Keep(_) => "book and confirm",
+            Act::GiveUp(_) => "book and withdraw",
+            Act::Try(_) => "try",
+            Act::Wait(_) => "wait",
+            Act::Release(_) => "release",
+            Act::Close(_) => "close",
+            Act::Slot => "slot",
+        })
     }
-    Ok(())
 }
 
-/// What was answered with nothing but yes or no.
-fn print_done(
-    rt: &HostRuntime,
-    what: &str,
-    number: u32,
-    r: Result<(), Refusal>,
-) -> anyhow::Result<()> {
-    match r {
-        Ok(()) => println!(rt; "{what}: query {number}")?,
-        Err(why) => print_refusal(rt, what, why)?,
+impl fmt::Display for Answer {
+    fn fmt<W: fmt::Write>(&self, f: &mut fmt::Formatter<W>) -> fmt::Result {
+        match self {
+            Answer::Query(number) => write!(f, "query {number}"),
+            Answer::WouldBe(number) => write!(f, "it would be query {number}"),
+            Answer::Wait(number, wait) => {
+                write!(
+                    f,
+                    "query {number} starts at most {wait} slots after its release"
+                )
+            }
+            Answer::Refused(why) => match why.named() {
+                Some(number) => write!(f, "refused {}, naming query {number}", why.code()),
+                None => write!(f, "refused {}", why.code()),
+            },
+        }
     }
-    Ok(())
 }
 
 /// A slot: a line for each round that runs.
 fn print_slot(rt: &HostRuntime, engine: &mut Engine) -> anyhow::Result<()> {
-    let mut lines = [Line { number: 0, step: 0 }; 256];
+    let mut lines = [Line::default(); 256];
     match engine.slot(&mut lines) {
         Ok(count) => {
-            println!(rt; "slot, rounds that run: {count}")?;
+            println!(rt; "{}, rounds that run: {count}", Act::Slot)?;
             for line in lines.iter().take(count) {
-                let number = line.number;
-                let step = line.step;
-                println!(rt; "  query {number} step {step}")?;
+                println!(rt; "  query {} step {}", line.number, line.step)?;
             }
         }
-        Err(why) => print_refusal(rt, "slot", why)?,
+        Err(why) => println!(rt; "{}: {}", Act::Slot, Answer::Refused(why))?,
     }
     Ok(())
 }
 
 /// Plays one act, and prints what came of it.
 pub fn play(rt: &HostRuntime, engine: &mut Engine, act: Act) -> anyhow::Result<()> {
-    match act {
-        Act::Keep(query) => {
-            let r = keep(engine, query);
-            print_numbered(rt, "book and confirm", "query", r)
-        }
-        Act::GiveUp(query) => {
-            let r = give_up(engine, query);
-            print_numbered(rt, "book and withdraw", "query", r)
-        }
-        Act::Try(query) => {
-            let r = engine.trial(query.priority, query.period, query.deadline);
-            print_numbered(rt, "try", "it would be query", r)
-        }
-        Act::Wait(number) => match engine.wait(number) {
-            Ok(wait) => {
-                println!(rt; "wait: query {number} starts at most {wait} slots after its release")?;
-                Ok(())
-            }
-            Err(why) => print_refusal(rt, "wait", why),
-        },
-        Act::Release(number) => {
-            let r = engine.release(number);
-            print_done(rt, "release", number, r)
-        }
-        Act::Close(number) => {
-            let r = engine.close(number);
-            print_done(rt, "close", number, r)
-        }
-        Act::Slot => print_slot(rt, engine),
-    }
+    let answer = match act {
+        Act::Keep(query) => keep(engine, query).map(Answer::Query),
+        Act::GiveUp(query) => give_up(engine, query).map(Answer::Query),
+        Act::Try(query) => engine
+            .trial(query.priority, query.period, query.deadline)
+            .map(Answer::WouldBe),
+        Act::Wait(number) => engine.wait(number).map(|wait| Answer::Wait(number, wait)),
+        Act::Release(number) => engine.release(number).map(|()| Answer::Query(number)),
+        Act::Close(number) => engine.close(number).map(|()| Answer::Query(number)),
+        Act::Slot => return print_slot(rt, engine),
+    };
+    let answer = answer.unwrap_or_else(Answer::Refused);
+    println!(rt; "{act}: {answer}")?;
+    Ok(())
 }

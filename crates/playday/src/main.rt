@@ -7,7 +7,6 @@ mod site;
 
 use day::{Act, Wanted, play};
 use engine::state::Engine;
-use plan::approved::ApprovedPlan;
 use site::approved_plan;
 
 /// The day: three bookings of which one is withdrawn, one that would make another query late, releases, a closing.
@@ -63,14 +62,14 @@ const DAY: [Act; 24] = [
 ];
 
 fn run(rt: &HostRuntime) -> anyhow::Result<()> {
-    let mut plan = ApprovedPlan::new();
-    if !approved_plan(&mut plan) {
+    let Some(plan) = approved_plan() else {
         println!(rt; "the site has no plan")?;
         return Ok(());
-    }
+    };
     let length = plan.length();
     let distance = plan.distance();
     println!(rt; "plan: {length} steps, minimum step distance {distance}")?;
+    // The refusal is printed and the program goes on to its end, so the match stays.
     let mut engine = match Engine::open(&plan, 0) {
         Ok(engine) => engine,
         Err(why) => {

@@ -39,10 +39,10 @@ const TREE: [TreeLink; 4] = [
     },
 ];
 
-/// Fills the place with the plan of the site; whether there is one.
-pub fn approved_plan(place: &mut ApprovedPlan) -> bool {
-    match GraphModel::from_edges(5, &EDGES) {
-        Ok(model) => make_plan(place, &TREE, &model).is_ok(),
-        Err(_) => false,
-    }
+/// The plan of the site, if it has one.
+pub fn approved_plan() -> Option<ApprovedPlan> {
+    let model = GraphModel::from_edges(5, &EDGES).ok()?;
+    let mut plan = ApprovedPlan::new();
+    make_plan(&mut plan, &TREE, &model).ok()?;
+    Some(plan)
 }

@@ -9,4 +9,4 @@ sooner a b = nat_lt a.priority b.priority || (a.priority == b.priority && nat_lt
 
 -- the deeper, then the smaller node
 abbrev pub deeper : Candidate → Candidate → Bool
-deeper a b = nat_lt b.depth a.depth || (b.depth == a.depth && nat_lt a.node b.node)
+deeper a b = nat_lt b.depth.0 a.depth.0 || (b.depth.0 == a.depth.0 && nat_lt a.node b.node)

@@ -2,18 +2,14 @@
 use Rattle.std.proofs.Common.{◌≡◌, ℕ, zero, suc, ◌+◌, ◌-◌, ◌<◌, ◌≤◌, false, List, [], ◌∷◌, length, get_or, drop, set, replicate, Some, None, Option, sym, refl, ap, ◌∙◌, arith}
 use Rattle.routing.specs.declared.link.TreeLink.{TreeLink}
 use Rattle.routing.specs.Search.{first_below}
-use Rattle.routing.specs.Tree.{bad_link, entered, hops, link_at, parent_table, slot_table}
+use Rattle.routing.specs.Tree.{Indexes, bad_link, entered, hops, link_at, parent_table, slot_table}
 use Rattle.routing.proofs.Searches.{first_none}
-use Rattle.std.proofs.ByRecursion.{All-from_get_or, All-get_or, All-set, All-weaker}
+use Rattle.std.proofs.ByRecursion.{All-from_get_or, All-set, All-weaker}
 use Rattle.std.proofs.lemmas.List.{at_drop_all, at_drop_more, length-set}
 use Rattle.std.proofs.lemmas.Bool.{ne_eqb}
 use Rattle.std.proofs.lemmas.Bool.Decides.{nat_tests}
 use Rattle.std.specs.Option.{option_map}
 use Rattle.std.specs.List.{AllByRecursion}
-
--- a record whose numbers index the tables
-abbrev pub Indexes : TreeLink → Type 0
-Indexes l = (l.child < 64) × (l.parent < 64) × (l.slots ≤ 4)
 
 bad_not : (n : ℕ) (l : TreeLink) → n ≤ 64 → bad_link n l ≡ false → Indexes l
 bad_not n l few good = (grind (arith, nat_tests), grind (arith, nat_tests), grind (arith, nat_tests))
@@ -23,9 +19,6 @@ pub all_index : (n : ℕ) (ls : List TreeLink) → n ≤ 64 → first_below (λ 
 all_index n ls few none =
     All-from_get_or Indexes ls (record { child = 0; parent = 0; slots = 0 })
     (λ i h. bad_not n (link_at ls i) few (first_none (λ k. bad_link n (link_at ls k)) (length ls) i none h))
-
-pub child_index : (ls : List TreeLink) (i : ℕ) → AllByRecursion (λ l. l.child < 64) ls → i < length ls → (link_at ls i).child < 64
-child_index ls i each h = All-get_or (λ l. l.child < 64) ls i (record { child = 0; parent = 0; slots = 0 }) h each
 
 -- one record more in a table
 pub enter_more : (value : TreeLink → ℕ) (ls : List TreeLink) (table all : List ℕ) (i x : ℕ) → i < length ls

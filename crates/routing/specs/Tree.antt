@@ -1,5 +1,5 @@
 -- The rules of a routing tree at a site of n nodes, node 0 being the base station.
-use Rattle.std.specs.Prelude.{◌≡◌, ℕ, zero, suc, ◌+◌, Bool, cond, not, ◌||◌, List, [], ◌∷◌, length, replicate, is_some, Some, None, Ok, Err, Option, Result, ◌==◌, nat_eq, nat_le, nat_lt, slice_index, slice_index_or, slice_set}
+use Rattle.std.specs.Prelude.{◌≡◌, ℕ, zero, suc, ◌+◌, ◌<◌, ◌≤◌, Bool, cond, not, ◌||◌, List, [], ◌∷◌, length, replicate, is_some, Some, None, Ok, Err, Option, Result, ◌==◌, nat_eq, nat_le, nat_lt, slice_index, slice_index_or, slice_set}
 use Rattle.routing.specs.declared.fault.TreeFault.{TreeFault}
 use Rattle.routing.specs.declared.fault.TreeFault.TheVariants.{Count, OutOfRange, Repeated, Unrooted}
 use Rattle.routing.specs.declared.link.TreeLink.{TreeLink}
@@ -16,6 +16,10 @@ abbrev pub bad_link : ℕ → TreeLink → Bool
 bad_link n l =
     nat_le n l.child
     || (nat_le n l.parent || (nat_lt l.slots 1 || (nat_lt 4 l.slots || (l.child == 0 || l.child == l.parent))))
+
+-- a record whose numbers index the tables by node
+abbrev pub Indexes : TreeLink → Type 0
+Indexes l = (l.child < 64) × (l.parent < 64) × (l.slots ≤ 4)
 
 -- the child of the record at place k has an earlier record
 abbrev pub repeated_at : List TreeLink → ℕ → Bool

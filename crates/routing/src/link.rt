@@ -2,7 +2,7 @@ ghost use Rattle.std.specs.Prelude.{◌≡◌};
 ghost use Rattle.routing.specs.Tree.{bad_link};
 
 /// A record of the routing tree: `child` sends to `parent`, in so many slots of each round.
-#[derive(Clone, Copy, PartialEq, Eq, Debug)]
+#[derive(Clone, Copy, Default, PartialEq, Eq, Debug)]
 pub struct TreeLink {
     pub child: u8,
     pub parent: u8,

@@ -3,42 +3,25 @@
 #![tactic(auto)]
 
 mod report;
-mod survey;
 
-use interference::graph::GraphModel;
-use plan::approved::ApprovedPlan;
-use planning::make_plan;
-use report::{Refusal, print_plan, print_refusal};
+use listing::listing::FILE_LIMIT;
+use listing::survey::planned_site;
+use report::{Refusal, print_plan};
 use std::io::Read;
-use survey::{Survey, read_survey};
-
-/// The most bytes that a day file has.
-const LIMIT: usize = 16_384;
-
-/// The approved plan of a survey, or why there is none.
-fn approved(survey: &Survey) -> Result<ApprovedPlan, Refusal> {
-    let model = match GraphModel::from_edges(survey.nodes, survey.edges.as_slice()) {
-        Ok(model) => model,
-        Err(fault) => return Err(Refusal::Model(fault)),
-    };
-    let mut plan = ApprovedPlan::new();
-    match make_plan(&mut plan, survey.tree.as_slice(), &model) {
-        Ok(()) => Ok(plan),
-        Err(fault) => Err(Refusal::Tree(fault)),
-    }
-}
 
 fn run(rt: &HostRuntime) -> anyhow::Result<()> {
     let mut file = Vec::new(rt.alloc());
-    // One byte past the limit is enough to see that a file is too long.
-    rt.stdin().take(LIMIT as u64 + 1).read_to_end(&mut file)?;
-    let survey = match read_survey(rt.alloc(), file.as_slice(), LIMIT) {
-        Ok(survey) => survey,
-        Err(fault) => return print_refusal(rt, Refusal::Survey(fault)),
-    };
-    match approved(&survey) {
-        Ok(plan) => print_plan(rt, survey.nodes, &plan),
-        Err(refusal) => print_refusal(rt, refusal),
+    // One byte past the limit is enough to see that a file is too long. As `daylist` reads its file: a crate for these lines
+    // would say no more.
+    rt.stdin()
+        .take(FILE_LIMIT as u64 + 1)
+        .read_to_end(&mut file)?;
+    match planned_site(&file) {
+        Ok(site) => print_plan(rt, &site),
+        Err(stop) => {
+            println!(rt; "{}", Refusal(stop))?;
+            Ok(())
+        }
     }
 }
 

@@ -1,27 +1,7 @@
 -- A text cut at the end of its first line.
-use Rattle.std.proofs.Common.{◌≡◌, ℕ, suc, ◌+◌, ◌-◌, ◌<◌, ◌≤◌, Bool, true, false, cond, List, [], ◌∷◌, length, take, drop, sym, refl, ap, ◌∙◌, one-add, arith, length-drop}
-use native.Mathlib.Nat.{sub-zero}
+use Rattle.std.proofs.Common.{◌≡◌, ℕ, suc, ◌+◌, ◌<◌, Bool, true, false, cond, List, [], ◌∷◌, length, take, drop, sym, refl, ap, ◌∙◌, one-add, arith}
 use Rattle.std.specs.List.{prefix_len}
-use Rattle.std.proofs.lemmas.List.{take_rest, take_all, drop_all}
 use Rattle.textfile.specs.Texts.{in_line, first_line, after_line, lines_of, onto}
-
-module _ (bs : List ℕ) (size : ℕ) (counted : size ≡ prefix_len in_line bs) where
-  pub line_is : take (size - 0) bs ≡ first_line bs
-  line_is = rw sub-zero (ap (λ k. take k bs) counted)
-
-  pub rest_is : take (length bs - (size + 1)) (drop (size + 1) bs) ≡ after_line bs
-  rest_is = take_rest bs (size + 1) ∙ ap (λ k. drop (k + 1) bs) counted
-
-  pub last_is : length bs ≤ size → bs ≡ first_line bs
-  last_is all = sym (take_all size bs all) ∙ ap (λ k. take k bs) counted
-
-  pub none_is : length bs ≤ size → take (length bs - size) (drop size bs) ≡ after_line bs
-  none_is all =
-      let past : length bs ≤ prefix_len in_line bs + 1 = omega arith in
-      take_rest bs size ∙ drop_all size bs all ∙ sym (drop_all (prefix_len in_line bs + 1) bs past)
-
-pub after_shorter : (bs cs : List ℕ) → 0 < length bs → cs ≡ after_line bs → length cs < length bs
-after_shorter bs cs some e = omega (arith, ap length e, length-drop (prefix_len in_line bs + 1) bs)
 
 -- the first line, and the lines after it
 one_line : (c : ℕ) (b : Bool) → cond b (onto c []) ([] ∷ []) ≡ take (cond b 1 0) (c ∷ []) ∷ lines_of (drop (cond b 1 0 + 1) (c ∷ []))

@@ -1,12 +1,13 @@
 -- Bytes that are read as a record are the bytes of that record, and those after it.
-use Rattle.std.proofs.Common.{◌≡◌, ℕ, ◌+◌, ◌*◌, ◌/◌, ◌%◌, ◌<◌, ◌≤◌, Bool, true, false, cond, eqb, ltb, List, [], ◌∷◌, ◌++◌, length, get_or, drop, Ok, Err, sym, refl, ap, ◌∙◌, subst, inl, inr, mod-eq_of_lt, arith}
+use Rattle.std.proofs.Common.{◌≡◌, ℕ, zero, suc, ◌+◌, ◌*◌, ◌<◌, ◌≤◌, Bool, true, false, cond, eqb, ltb, List, [], ◌∷◌, ◌++◌, length, get_or, drop, Ok, Err, sym, refl, ap, ◌∙◌, subst, inl, inr, arith}
 use Rattle.std.proofs.lemmas.Bool.{ltb-false, cases_eq, both_ways}
 use Rattle.std.proofs.lemmas.Bool.Decides.{nat_tests}
+use Rattle.std.proofs.lemmas.Nat.{le_bytes_2, le_bytes_4}
 use Rattle.dayfile.specs.declared.record.Record.{Record}
 use Rattle.dayfile.specs.declared.record.ReadFault.TheVariants.{UnknownKind, CutShort}
 use Rattle.dayfile.specs.Layout.{kind_of, size_of, record_as, record_of, rest_of, le32}
 use Rattle.dayfile.specs.Reading.{next_of, read_of}
-use Rattle.dayfile.proofs.Fronts.{front}
+use Rattle.daytext.proofs.Places.{front}
 use Rattle.daytext.specs.Bytes.{bytes_of, two_bytes, four_bytes}
 use Rattle.daytext.specs.RoundTrip.{Fits}
 
@@ -26,26 +27,23 @@ taken false false false bs t r e =
     record { known = refl; whole = refl; first = ap (λ p. p.0) same; rest = ap (λ p. p.1) same }
 
 -- numbers that were read from bytes give those bytes again
-low : (a n : ℕ) → a < 256 → a ≡ (a + n * 256) % 256
-low a n p = omega arith
-
 two_back : (a b : ℕ) → a < 256 → b < 256 → a ∷ b ∷ [] ≡ two_bytes (a + b * 256)
-two_back a b p q =
-    let up : (a + b * 256) / 256 ≡ b = omega arith in
-    let y : b ≡ (a + b * 256) / 256 % 256 = sym (ap (λ m. m % 256) up ∙ mod-eq_of_lt q) in
-    λ i. low a b p i ∷ y i ∷ []
+two_back a b p q = sym (le_bytes_2 (a ∷ b ∷ []) _ refl each refl)
+  where
+    each : (i : ℕ) → get_or (a ∷ b ∷ []) i 0 < 256
+    each zero = p
+    each (suc zero) = q
+    each (suc (suc i)) = omega arith
 
 four_back : (a b c d : ℕ) → a < 256 → b < 256 → c < 256 → d < 256 → a ∷ b ∷ c ∷ d ∷ [] ≡ four_bytes (a + b * 256 + c * 65536 + d * 16777216)
-four_back a b c d p q r s =
-    let as_one : a + b * 256 + c * 65536 + d * 16777216 ≡ a + (b + (c + d * 256) * 256) * 256 = omega arith in
-    let up₁ : (a + b * 256 + c * 65536 + d * 16777216) / 256 ≡ b + (c + d * 256) * 256 = omega arith in
-    let up₂ : (a + b * 256 + c * 65536 + d * 16777216) / 65536 ≡ c + d * 256 = omega arith in
-    let up₃ : (a + b * 256 + c * 65536 + d * 16777216) / 16777216 ≡ d = omega arith in
-    let x = low a (b + (c + d * 256) * 256) p ∙ ap (λ m. m % 256) (sym as_one) in
-    let y = low b (c + d * 256) q ∙ ap (λ m. m % 256) (sym up₁) in
-    let z = low c d r ∙ ap (λ m. m % 256) (sym up₂) in
-    let w = sym (ap (λ m. m % 256) up₃ ∙ mod-eq_of_lt s) in
-    λ i. x i ∷ y i ∷ z i ∷ w i ∷ []
+four_back a b c d p q r s = sym (le_bytes_4 (a ∷ b ∷ c ∷ d ∷ []) _ refl each refl)
+  where
+    each : (i : ℕ) → get_or (a ∷ b ∷ c ∷ d ∷ []) i 0 < 256
+    each zero = p
+    each (suc zero) = q
+    each (suc (suc zero)) = r
+    each (suc (suc (suc zero))) = s
+    each (suc (suc (suc (suc i)))) = omega arith
 
 unknown : (k : ℕ) → (k ≡ 1 → ⊥) → (k ≡ 2 → ⊥) → (k ≡ 3 → ⊥) → (k ≡ 4 → ⊥) → (k ≡ 5 → ⊥) → (k ≡ 6 → ⊥) → (k ≡ 7 → ⊥) → eqb (size_of k) 0 ≡ true
 unknown k a b c d e f g = grind (arith, nat_tests)

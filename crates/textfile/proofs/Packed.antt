@@ -1,6 +1,6 @@
 -- One line after another, packed.
-use Rattle.std.proofs.Common.{◌≡◌, ℕ, ◌+◌, ◌<◌, List, [], ◌++◌, length, Some, None, Ok, Err, Option, Result, sym, refl, ap, ◌∙◌}
-use Rattle.std.proofs.lemmas.List.{append_assoc, append-nil}
+use Rattle.std.proofs.Common.{◌≡◌, ℕ, ◌+◌, ◌<◌, List, ◌++◌, length, Some, None, Ok, Err, Option, Result, sym, refl, ap, ◌∙◌, arith}
+use Rattle.std.proofs.lemmas.List.{append_assoc}
 use Rattle.dayfile.specs.declared.record.Record.{Record}
 use Rattle.daytext.specs.declared.fault.LineFault.{LineFault}
 use Rattle.daytext.specs.Bytes.{bytes_of}
@@ -12,16 +12,12 @@ before_more : (bs cs : List ℕ) (more : Result (List ℕ) (ℕ × LineFault)) �
 before_more bs cs (Ok ds) = ap (λ l. Ok l) (sym (append_assoc bs cs ds))
 before_more bs cs (Err e) = refl
 
--- no line is left
-pub packs_all : (text file rest : List ℕ) (n : ℕ) → packed_of text ≡ before file (packed_from n (lines_of rest)) → rest ≡ [] → packed_of text ≡ Ok file
-packs_all text file rest n so none = so ∙ ap (λ l. before file (packed_from n (lines_of l))) none ∙ ap (λ l. Ok l) (append-nil file)
-
 -- the line of number n, and what is left after it
-module _ (text file rest line after : List ℕ) (n : ℕ) (so : packed_of text ≡ before file (packed_from n (lines_of rest))) (some : 0 < length rest) (first : line ≡ first_line rest) (later : after ≡ after_line rest) where
+module _ (text file rest line after : List ℕ) (n : ℕ) (so : packed_of text ≡ before file (packed_from n (lines_of rest))) (shorter : length after < length rest) (first : line ≡ first_line rest) (later : after ≡ after_line rest) where
   meant : (m : Result (Option Record) LineFault) → m ≡ line_meaning line → packed_of text ≡ before file (packed_line n m (packed_from (n + 1) (lines_of after)))
   meant m e =
       so
-      ∙ ap (λ ls. before file (packed_from n ls)) (lines_step rest some)
+      ∙ ap (λ ls. before file (packed_from n ls)) (lines_step rest (omega (arith, shorter)))
       ∙ (λ i. before file (packed_line n ((ap line_meaning (sym first) ∙ sym e) i) (packed_from (n + 1) (lines_of (sym later i)))))
 
   pub packs_none : Ok None ≡ line_meaning line → packed_of text ≡ before file (packed_from (n + 1) (lines_of after))

@@ -2,13 +2,15 @@
 ghost use Rattle.std.specs.Prelude.{◌≡◌, Some};
 ghost use Rattle.textfile.specs.declared.fault.FileFault.TheVariants.{Memory as NoFileMemory};
 ghost use Rattle.textfile.specs.declared.fault.TextFault.TheVariants.{Memory as NoTextMemory};
-ghost use Rattle.textfile.specs.Faults.{read_message, text_fault_shown, file_fault_shown};
+ghost use Rattle.textfile.specs.Faults.{text_fault_shown, file_fault_shown};
 
 use dayfile::record::ReadFault;
 use daytext::fault::LineFault;
 use std::alloc::AllocError;
 use std::error::Error;
 use std::fmt;
+
+// Not one type over the inner fault: a line's number and a byte's offset print with another word, which takes a trait.
 
 /// Why a text cannot be packed.
 #[derive(Clone, Copy, Debug)]
@@ -26,16 +28,6 @@ pub enum FileFault {
     Unreadable(usize, ReadFault),
     /// There is no memory for the text.
     Memory,
-}
-
-// The fault of the reader in words.
-fn read_message(fault: ReadFault) -> &'static str
-    ensures { result.now ≡ read_message fault }
-{
-    match fault {
-        ReadFault::UnknownKind => "no record begins with this byte",
-        ReadFault::CutShort => "the record is cut short",
-    }
 }
 
 impl From<AllocError> for TextFault {
@@ -59,10 +51,7 @@ impl fmt::Display for TextFault {
 
     fn fmt<W: fmt::Write>(&self, f: &mut fmt::Formatter<W>) -> fmt::Result {
         match *self {
-            TextFault::Line(number, fault) => {
-                let what = fault.message();
-                write!(f, "line {number}: {what}")
-            }
+            TextFault::Line(number, fault) => write!(f, "line {number}: {fault}"),
             TextFault::Memory => f.write_str("out of memory"),
         }
     }
@@ -73,10 +62,7 @@ impl fmt::Display for FileFault {
 
     fn fmt<W: fmt::Write>(&self, f: &mut fmt::Formatter<W>) -> fmt::Result {
         match *self {
-            FileFault::Unreadable(offset, fault) => {
-                let what = read_message(fault);
-                write!(f, "byte {offset}: {what}")
-            }
+            FileFault::Unreadable(offset, fault) => write!(f, "byte {offset}: {fault}"),
             FileFault::Memory => f.write_str("out of memory"),
         }
     }

@@ -1,6 +1,6 @@
 use crate::drawn::source::{Source, low_word};
 use dayfile::record::Record;
-use std::alloc::{AllocError, Global};
+use std::alloc::AllocError;
 
 /// Draws the records that follow a site.
 #[derive(Clone, Copy)]
@@ -106,6 +106,7 @@ impl Day {
         }
         let priorities = if source.one_in(2) { 256 } else { 10 };
         let priority = source.byte(priorities);
+        // One of three ways by the number drawn: closures would say the same.
         let terms = match how {
             0 => self.faulty_terms(source),
             1 => self.tight_terms(source),
@@ -197,12 +198,11 @@ impl Day {
 
     pub fn records(
         &mut self,
-        heap: Global,
         source: &mut Source,
         bookings: u32,
         acts: u32,
     ) -> Result<Vec<Record>, AllocError> {
-        let mut records = Vec::new(heap);
+        let mut records = Vec::new(source.heap);
         self.bookings(source, bookings, &mut records)?;
         for _ in 0..acts {
             records.push(self.act(source))?;

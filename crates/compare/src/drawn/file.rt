@@ -1,13 +1,11 @@
 use crate::drawn::day::Day;
-use crate::drawn::encoding::encode;
+use crate::drawn::encoding::add_records;
 use crate::drawn::site::DrawnSite;
 use crate::drawn::sound::{SoundFile, filled_bytes};
 use crate::drawn::source::Source;
+use dayfile::FILE_LIMIT;
 use dayfile::record::Record;
 use std::alloc::{AllocError, Global};
-
-/// The most bytes that a day file has.
-const LIMIT: usize = 16_384;
 
 /// A day file with the lengths of the lists that it is listed into.
 #[derive(Drop)]
@@ -48,16 +46,17 @@ impl Class {
         }
     }
 
-    fn draw(self, heap: Global, source: &mut Source) -> Result<Vec<u8>, AllocError> {
+    // Each class has its own function, named here once: a table of closures would say the same.
+    fn draw(self, source: &mut Source) -> Result<Vec<u8>, AllocError> {
         match self {
-            Class::Sound | Class::ShortList => SoundFile::draw(heap, source)?.bytes(heap),
-            Class::FaultySite => faulty_site(heap, source),
-            Class::WrongOrder => wrong_order(heap, source),
-            Class::UnknownKind => unknown_kind(heap, source),
-            Class::CutShort => cut_short(heap, source),
-            Class::Changed => changed(heap, source),
-            Class::Noise => noise(heap, source),
-            Class::Filled => filled(heap, source),
+            Class::Sound | Class::ShortList => SoundFile::draw(source)?.bytes(source.heap),
+            Class::FaultySite => faulty_site(source),
+            Class::WrongOrder => wrong_order(source),
+            Class::UnknownKind => unknown_kind(source),
+            Class::CutShort => cut_short(source),
+            Class::Changed => changed(source),
+            Class::Noise => noise(source),
+            Class::Filled => filled(source),
         }
     }
 
@@ -75,20 +74,20 @@ impl Class {
     }
 }
 
-fn faulty_site(heap: Global, source: &mut Source) -> Result<Vec<u8>, AllocError> {
+fn faulty_site(source: &mut Source) -> Result<Vec<u8>, AllocError> {
     let nodes = source.byte(17).saturating_add(4);
-    let mut site = DrawnSite::draw(heap, source, nodes)?;
+    let mut site = DrawnSite::draw(source, nodes)?;
     let mut day = Day::draw(source, site.scale());
     site.spoil(source)?;
     // A second fault shows in which order the checks run.
     if source.one_in(2) {
         site.spoil(source)?;
     }
-    let before = site.records(heap, source)?;
+    let before = site.records(source)?;
     let bookings = source.below(3);
     let acts = source.below(3);
-    let after = day.records(heap, source, bookings, acts)?;
-    SoundFile { before, after, day }.bytes(heap)
+    let after = day.records(source, bookings, acts)?;
+    SoundFile { before, after, day }.bytes(source.heap)
 }
 
 /// Puts a record at a drawn place, but not in front of all.
@@ -104,39 +103,35 @@ fn insert_late(
     Ok(())
 }
 
-fn without_nodes(heap: Global, file: SoundFile) -> Result<Vec<u8>, AllocError> {
+fn without_nodes(source: &Source, file: SoundFile) -> Result<Vec<u8>, AllocError> {
     let records = file.joined()?;
-    let mut bytes = Vec::new(heap);
-    encode(&mut bytes, records.get(1..).unwrap_or(&[]))?;
+    let mut bytes = Vec::new(source.heap);
+    add_records(&mut bytes, records.get(1..).unwrap_or(&[]))?;
     Ok(bytes)
 }
 
-fn nodes_twice(heap: Global, source: &mut Source, file: SoundFile) -> Result<Vec<u8>, AllocError> {
+fn nodes_twice(source: &mut Source, file: SoundFile) -> Result<Vec<u8>, AllocError> {
     let mut records = file.joined()?;
     let count = source.byte(65);
     insert_late(source, &mut records, Record::Nodes { count })?;
-    let mut bytes = Vec::new(heap);
-    encode(&mut bytes, records.as_slice())?;
+    let mut bytes = Vec::new(source.heap);
+    add_records(&mut bytes, records.as_slice())?;
     Ok(bytes)
 }
 
-fn act_first(
-    heap: Global,
-    source: &mut Source,
-    mut file: SoundFile,
-) -> Result<Vec<u8>, AllocError> {
+fn act_first(source: &mut Source, mut file: SoundFile) -> Result<Vec<u8>, AllocError> {
     let first = file.day.act(source);
-    let mut bytes = Vec::new(heap);
-    encode(&mut bytes, &[first])?;
-    bytes.extend_from_slice(file.bytes(heap)?.as_slice())?;
+    let mut bytes = Vec::new(source.heap);
+    add_records(&mut bytes, &[first])?;
+    bytes.extend_from_slice(file.bytes(source.heap)?.as_slice())?;
     Ok(bytes)
 }
 
-fn wrong_order(heap: Global, source: &mut Source) -> Result<Vec<u8>, AllocError> {
-    let mut file = SoundFile::draw(heap, source)?;
+fn wrong_order(source: &mut Source) -> Result<Vec<u8>, AllocError> {
+    let mut file = SoundFile::draw(source)?;
     match source.below(6) {
-        0 => return without_nodes(heap, file),
-        1 => return nodes_twice(heap, source, file),
+        0 => return without_nodes(source, file),
+        1 => return nodes_twice(source, file),
         2 => insert_late(source, &mut file.after, Record::Edge { from: 0, to: 0 })?,
         3 => {
             let link = Record::Tree {
@@ -146,35 +141,35 @@ fn wrong_order(heap: Global, source: &mut Source) -> Result<Vec<u8>, AllocError>
             };
             insert_late(source, &mut file.after, link)?
         }
-        4 => return act_first(heap, source, file),
-        _ => return Ok(Vec::new(heap)),
+        4 => return act_first(source, file),
+        _ => return Ok(Vec::new(source.heap)),
     }
-    file.bytes(heap)
+    file.bytes(source.heap)
 }
 
-fn unknown_kind(heap: Global, source: &mut Source) -> Result<Vec<u8>, AllocError> {
-    let records = SoundFile::draw(heap, source)?.joined()?;
+fn unknown_kind(source: &mut Source) -> Result<Vec<u8>, AllocError> {
+    let records = SoundFile::draw(source)?.joined()?;
     let at = source.place(records.len().saturating_add(1));
     let kind = if source.one_in(4) {
         0
     } else {
         source.byte_from(8)
     };
-    let mut bytes = Vec::new(heap);
-    encode(&mut bytes, records.get(0..at).unwrap_or(&[]))?;
+    let mut bytes = Vec::new(source.heap);
+    add_records(&mut bytes, records.get(0..at).unwrap_or(&[]))?;
     bytes.push(kind)?;
-    encode(&mut bytes, records.get(at..).unwrap_or(&[]))?;
+    add_records(&mut bytes, records.get(at..).unwrap_or(&[]))?;
     Ok(bytes)
 }
 
-fn cut_short(heap: Global, source: &mut Source) -> Result<Vec<u8>, AllocError> {
-    let mut bytes = SoundFile::draw(heap, source)?.bytes(heap)?;
+fn cut_short(source: &mut Source) -> Result<Vec<u8>, AllocError> {
+    let mut bytes = SoundFile::draw(source)?.bytes(source.heap)?;
     bytes.truncate(source.place(bytes.len()));
     Ok(bytes)
 }
 
-fn changed(heap: Global, source: &mut Source) -> Result<Vec<u8>, AllocError> {
-    let mut bytes = SoundFile::draw(heap, source)?.bytes(heap)?;
+fn changed(source: &mut Source) -> Result<Vec<u8>, AllocError> {
+    let mut bytes = SoundFile::draw(source)?.bytes(source.heap)?;
     for _ in 0..source.below(4).saturating_add(1) {
         let at = source.place(bytes.len());
         let most = if source.one_in(2) { 256 } else { 9 };
@@ -187,9 +182,9 @@ fn changed(heap: Global, source: &mut Source) -> Result<Vec<u8>, AllocError> {
 }
 
 /// Bytes with no order among them, some with a site of one node in front so that the engine is reached.
-fn noise(heap: Global, source: &mut Source) -> Result<Vec<u8>, AllocError> {
+fn noise(source: &mut Source) -> Result<Vec<u8>, AllocError> {
     let how = source.below(3);
-    let mut bytes = Vec::new(heap);
+    let mut bytes = Vec::new(source.heap);
     if how == 2 {
         bytes.extend_from_slice(&[1, 1])?;
     }
@@ -201,21 +196,21 @@ fn noise(heap: Global, source: &mut Source) -> Result<Vec<u8>, AllocError> {
 }
 
 /// Long files, at the limit and beyond it.
-fn filled(heap: Global, source: &mut Source) -> Result<Vec<u8>, AllocError> {
+fn filled(source: &mut Source) -> Result<Vec<u8>, AllocError> {
     let size = match source.below(8) {
-        0 => LIMIT,
-        1..=2 => source.place(LIMIT - 2_000).saturating_add(2_000),
-        3..=4 => LIMIT + 1,
-        _ => source.place(4_000).saturating_add(LIMIT + 1),
+        0 => FILE_LIMIT,
+        1..=2 => source.place(FILE_LIMIT - 2_000).saturating_add(2_000),
+        3..=4 => FILE_LIMIT + 1,
+        _ => source.place(4_000).saturating_add(FILE_LIMIT + 1),
     };
-    filled_bytes(heap, source, size)
+    filled_bytes(source, size)
 }
 
 /// The day file of this index.
 pub fn draw_file(heap: Global, index: u32) -> Result<DayFile, AllocError> {
-    let mut source = Source::new(index);
+    let mut source = Source::new(heap, index);
     let class = Class::of(index);
-    let bytes = class.draw(heap, &mut source)?;
+    let bytes = class.draw(&mut source)?;
     let room = class.room(&mut source, bytes.len());
     let stop_room = source.place(24);
     Ok(DayFile {

@@ -1,7 +1,7 @@
 use crate::drawn::source::Source;
 use crate::survey::{Edge, Link};
 use dayfile::record::Record;
-use std::alloc::{AllocError, Global};
+use std::alloc::AllocError;
 
 /// How the places of a routing tree hang together, before nodes are dealt to them. Place 0 is the base station.
 #[derive(Clone, Copy)]
@@ -40,28 +40,26 @@ pub struct DrawnSite {
     edges: Vec<Edge>,
 }
 
+// A source and the number of nodes go through four functions: there is no more to be said of the two together.
 /// The nodes but the base station in any order, so that a node's number says nothing of its depth.
-fn draw_labels(heap: Global, source: &mut Source, nodes: u8) -> Result<Vec<u8>, AllocError> {
-    let mut labels = Vec::new(heap);
-    for node in 1..nodes {
-        labels.push(node)?;
-    }
+fn draw_labels(source: &mut Source, nodes: u8) -> Result<Vec<u8>, AllocError> {
+    let mut labels: Vec<u8> = (1..nodes).collect(source.heap)?;
     source.shuffle(&mut labels);
     Ok(labels)
 }
 
-fn label(labels: &Vec<u8>, place: u8) -> u8 {
-    match place.checked_sub(1) {
-        Some(i) => labels.get(i as usize).copied().unwrap_or(0),
-        None => 0,
-    }
+fn label(labels: &[u8], place: u8) -> u8 {
+    place
+        .checked_sub(1)
+        .and_then(|i| labels.get(usize::from(i)).copied())
+        .unwrap_or(0)
 }
 
-fn draw_tree(heap: Global, source: &mut Source, nodes: u8) -> Result<Vec<Link>, AllocError> {
-    let labels = draw_labels(heap, source, nodes)?;
+fn draw_tree(source: &mut Source, nodes: u8) -> Result<Vec<Link>, AllocError> {
+    let labels = draw_labels(source, nodes)?;
     let shape = Shape::draw(source);
     let most = source.below(4).saturating_add(1);
-    let mut tree = Vec::new(heap);
+    let mut tree = Vec::new(source.heap);
     for place in 1..nodes {
         let above = shape.parent(source, place);
         let slots = source.byte(most).saturating_add(1);
@@ -74,14 +72,14 @@ fn draw_tree(heap: Global, source: &mut Source, nodes: u8) -> Result<Vec<Link>, 
     Ok(tree)
 }
 
-fn draw_edges(heap: Global, source: &mut Source, nodes: u8) -> Result<Vec<Edge>, AllocError> {
+fn draw_edges(source: &mut Source, nodes: u8) -> Result<Vec<Edge>, AllocError> {
     let bound = u32::from(nodes);
     let most = if source.one_in(8) {
         bound.saturating_mul(4)
     } else {
         bound
     };
-    let mut edges = Vec::new(heap);
+    let mut edges = Vec::new(source.heap);
     for _ in 0..source.below(most) {
         let from = source.byte(bound);
         let to = source.byte(bound);
@@ -91,24 +89,23 @@ fn draw_edges(heap: Global, source: &mut Source, nodes: u8) -> Result<Vec<Edge>,
 }
 
 impl DrawnSite {
-    pub fn draw(heap: Global, source: &mut Source, nodes: u8) -> Result<DrawnSite, AllocError> {
-        let tree = draw_tree(heap, source, nodes)?;
-        let edges = draw_edges(heap, source, nodes)?;
+    pub fn draw(source: &mut Source, nodes: u8) -> Result<DrawnSite, AllocError> {
+        let tree = draw_tree(source, nodes)?;
+        let edges = draw_edges(source, nodes)?;
         Ok(DrawnSite { nodes, tree, edges })
     }
 
     /// The slots of all links: no plan of the site is longer.
     pub fn scale(&self) -> u32 {
-        let mut sum = 0u32;
-        for link in self.tree.iter() {
-            sum = sum.saturating_add(u32::from(link.slots));
-        }
-        sum.max(1)
+        self.tree
+            .iter()
+            .fold(0u32, |sum, link| sum.saturating_add(u32::from(link.slots)))
+            .max(1)
     }
 
     /// The nodes record, then links and edges mixed.
-    pub fn records(&self, heap: Global, source: &mut Source) -> Result<Vec<Record>, AllocError> {
-        let mut body = self.links(heap)?;
+    pub fn records(&self, source: &mut Source) -> Result<Vec<Record>, AllocError> {
+        let mut body = self.links(source)?;
         for edge in self.edges.iter() {
             body.push(Record::Edge {
                 from: edge.from,
@@ -116,21 +113,20 @@ impl DrawnSite {
             })?;
         }
         source.shuffle(&mut body);
-        let mut records = vec![in heap; Record::Nodes { count: self.nodes }]?;
+        let mut records = vec![in source.heap; Record::Nodes { count: self.nodes }]?;
         records.extend_from_slice(body.as_slice())?;
         Ok(records)
     }
 
-    fn links(&self, heap: Global) -> Result<Vec<Record>, AllocError> {
-        let mut records = Vec::new(heap);
-        for link in self.tree.iter() {
-            records.push(Record::Tree {
+    fn links(&self, source: &Source) -> Result<Vec<Record>, AllocError> {
+        self.tree
+            .iter()
+            .map(|link| Record::Tree {
                 child: link.child,
                 parent: link.parent,
                 slots: link.slots,
-            })?;
-        }
-        Ok(records)
+            })
+            .collect(source.heap)
     }
 
     /// Puts in one fault; which refusal follows is not decided here.
@@ -207,10 +203,7 @@ impl DrawnSite {
     }
 
     fn child(&self, i: usize) -> u8 {
-        match self.tree.get(i) {
-            Some(link) => link.child,
-            None => 0,
-        }
+        self.tree.get(i).map_or(0, |link| link.child)
     }
 
     fn repeat_child(&mut self, i: usize, j: usize) {

@@ -1,5 +1,5 @@
 use crate::drawn::day::Day;
-use crate::drawn::encoding::{encode, encode_record};
+use crate::drawn::encoding::{add_record, add_records};
 use crate::drawn::site::DrawnSite;
 use crate::drawn::source::Source;
 use dayfile::record::Record;
@@ -14,12 +14,12 @@ pub struct SoundFile {
 }
 
 impl SoundFile {
-    pub fn draw(heap: Global, source: &mut Source) -> Result<SoundFile, AllocError> {
+    pub fn draw(source: &mut Source) -> Result<SoundFile, AllocError> {
         let most = if source.one_in(12) { 64 } else { 20 };
         let nodes = source.byte(most).saturating_add(1);
-        let site = DrawnSite::draw(heap, source, nodes)?;
+        let site = DrawnSite::draw(source, nodes)?;
         let mut day = Day::draw(source, site.scale());
-        let before = site.records(heap, source)?;
+        let before = site.records(source)?;
         let bookings = if source.one_in(16) {
             0
         } else {
@@ -30,14 +30,14 @@ impl SoundFile {
         } else {
             source.below(80)
         };
-        let after = day.records(heap, source, bookings, acts)?;
+        let after = day.records(source, bookings, acts)?;
         Ok(SoundFile { before, after, day })
     }
 
     pub fn bytes(&self, heap: Global) -> Result<Vec<u8>, AllocError> {
         let mut bytes = Vec::new(heap);
-        encode(&mut bytes, self.before.as_slice())?;
-        encode(&mut bytes, self.after.as_slice())?;
+        add_records(&mut bytes, self.before.as_slice())?;
+        add_records(&mut bytes, self.after.as_slice())?;
         Ok(bytes)
     }
 
@@ -53,6 +53,8 @@ impl SoundFile {
     }
 }
 
+// A source and a size go through three functions: there is no more to be said of the two together. The next two differ in
+// what they add and how far: as one function they would take both.
 fn add_short_acts(
     bytes: &mut Vec<u8>,
     day: &mut Day,
@@ -63,7 +65,7 @@ fn add_short_acts(
         if bytes.len().saturating_add(16) >= size {
             break;
         }
-        encode_record(bytes, day.short_act(source))?;
+        add_record(bytes, day.short_act(source))?;
     }
     Ok(())
 }
@@ -74,7 +76,7 @@ fn add_runs(bytes: &mut Vec<u8>, source: &mut Source, size: usize) -> Result<(),
         if bytes.len() >= size {
             break;
         }
-        encode_record(
+        add_record(
             bytes,
             Record::Run {
                 slots: source.word(8),
@@ -85,14 +87,14 @@ fn add_runs(bytes: &mut Vec<u8>, source: &mut Source, size: usize) -> Result<(),
 }
 
 /// A sound file of exactly this many bytes: releases of 5 bytes until runs of 3 bytes can fill the rest.
-pub fn filled_bytes(heap: Global, source: &mut Source, size: usize) -> Result<Vec<u8>, AllocError> {
-    let file = SoundFile::draw(heap, source)?;
-    let mut bytes = file.bytes(heap)?;
+pub fn filled_bytes(source: &mut Source, size: usize) -> Result<Vec<u8>, AllocError> {
+    let file = SoundFile::draw(source)?;
+    let mut bytes = file.bytes(source.heap)?;
     let mut day = file.day;
     add_short_acts(&mut bytes, &mut day, source, size)?;
     for _ in 0..2 {
         if size.saturating_sub(bytes.len()) % 3 != 0 {
-            encode_record(&mut bytes, day.release(source))?;
+            add_record(&mut bytes, day.release(source))?;
         }
     }
     add_runs(&mut bytes, source, size)?;

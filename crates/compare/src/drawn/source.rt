@@ -1,6 +1,10 @@
-/// A linear congruential generator. Each file has its own, so that any file can be made again by its index alone.
+use std::alloc::Global;
+
+/// A linear congruential generator, and the heap that what it draws lies on. Each file has its own, so that any file can
+/// be made again by its index alone.
 #[derive(Drop)]
 pub struct Source {
+    pub heap: Global,
     state: u64,
 }
 
@@ -13,9 +17,10 @@ pub fn low_word(x: u32) -> u16 {
 }
 
 impl Source {
-    pub fn new(index: u32) -> Source {
+    pub fn new(heap: Global, index: u32) -> Source {
         let place = u64::from(index).wrapping_add(1);
         Source {
+            heap,
             state: place.wrapping_mul(0x9e37_79b9_7f4a_7c15),
         }
     }
@@ -56,7 +61,7 @@ impl Source {
         self.below(bound) == 0
     }
 
-    pub fn shuffle<T>(&mut self, items: &mut Vec<T>) {
+    pub fn shuffle<T>(&mut self, items: &mut [T]) {
         for i in 1..items.len() {
             let j = self.place(i.saturating_add(1));
             if i < items.len() && j < items.len() {

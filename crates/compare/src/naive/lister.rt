@@ -1,21 +1,22 @@
-use crate::ending::{Ending, Stop};
-use crate::naive::page::{Halt, Page, stopped};
-use crate::naive::reading::{Unreadable, read};
-use crate::naive::scheduler::{Engine, Refusal};
+use crate::ending::Stop;
+use crate::naive::fault::{Fault, Halt};
+use crate::naive::page::Page;
+use crate::naive::reading::read;
+use crate::naive::scheduler::{Engine, Failure, Refusal};
 use crate::naive::site::Site;
 use crate::naive::steps::make_plan;
 use crate::survey::{Edge, Link};
 use dayfile::record::Record;
 use std::alloc::{AllocError, Global};
 
-/// The most bytes that a day file has.
+/// The most bytes that a day file has. Written here again: this scheduler takes nothing from the product but records.
 const LIMIT: usize = 16_384;
 
 /// A whole listing.
 #[derive(Drop)]
 pub struct Listed {
     pub text: Vec<u8>,
-    pub ending: Ending,
+    pub stop: Option<Stop>,
 }
 
 #[derive(Drop)]
@@ -31,7 +32,7 @@ struct Lister {
 impl Lister {
     fn list(&mut self, file: &[u8]) -> Result<(), Halt> {
         if file.len() > LIMIT {
-            return Err(stopped(36, 0));
+            return Err(Halt::Stopped(Fault::TooLong, 0));
         }
         let mut offset = 0usize;
         // Each turn takes bytes, so there are no more turns than bytes.
@@ -46,11 +47,7 @@ impl Lister {
 
     /// Carries out the record at the front of the bytes, and answers its size.
     fn take(&mut self, offset: usize, bytes: &[u8]) -> Result<usize, Halt> {
-        let reading = match read(bytes) {
-            Ok(reading) => reading,
-            Err(Unreadable::UnknownKind) => return Err(stopped(31, offset)),
-            Err(Unreadable::CutShort) => return Err(stopped(32, offset)),
-        };
+        let reading = read(bytes).map_err(|fault| Halt::Stopped(fault, offset))?;
         match reading.record {
             Record::Nodes { count } => self.set_nodes(offset, count)?,
             Record::Edge { from, to } => {
@@ -78,7 +75,7 @@ impl Lister {
 
     fn set_nodes(&mut self, offset: usize, count: u8) -> Result<(), Halt> {
         if self.site.is_some() {
-            return Err(stopped(33, offset));
+            return Err(Halt::Stopped(Fault::Order, offset));
         }
         self.site = Some(Site::new(self.heap, count));
         Ok(())
@@ -87,12 +84,11 @@ impl Lister {
     /// The site, as long as records may be added to it.
     fn open_site(&mut self, offset: usize) -> Result<&mut Site, Halt> {
         if self.engine.is_some() {
-            return Err(stopped(33, offset));
+            return Err(Halt::Stopped(Fault::Order, offset));
         }
-        match &mut self.site {
-            Some(site) => Ok(site),
-            None => Err(stopped(33, offset)),
-        }
+        self.site
+            .as_mut()
+            .ok_or(Halt::Stopped(Fault::Order, offset))
     }
 
     /// Makes the plan unless it is made.
@@ -101,15 +97,10 @@ impl Lister {
             return Ok(());
         }
         let Some(site) = &self.site else {
-            return Err(stopped(33, offset));
+            return Err(Halt::Stopped(Fault::Order, offset));
         };
-        if let Some(inner) = site.fault() {
-            return Err(Halt::Stopped(Stop {
-                refusal: 35,
-                offset,
-                inner: Some(inner),
-            }));
-        }
+        site.check()
+            .map_err(|fault| Halt::Stopped(Fault::Unplanned(fault), offset))?;
         let plan = make_plan(self.heap, site)?;
         let length = plan.length;
         let distance = plan.distance;
@@ -146,14 +137,15 @@ impl Lister {
             return Ok(());
         };
         let deadline = if deadline == 0 { period } else { deadline };
-        match engine.accept(priority, u64::from(period), u64::from(deadline))? {
+        match engine.accept(priority, u64::from(period), u64::from(deadline)) {
             Ok(accepted) => {
                 let number = accepted.number;
                 let wait = accepted.wait;
                 let line = format!(in self.heap; "QUERY {number} {wait}\n")?;
                 self.page.write(offset, line.as_str())
             }
-            Err(refusal) => self.refuse(offset, refusal),
+            Err(Failure::Refused(refusal)) => self.refuse(offset, refusal),
+            Err(Failure::Memory) => Err(Halt::Memory),
         }
     }
 
@@ -189,13 +181,13 @@ pub fn list(heap: Global, file: &[u8], room: usize) -> Result<Listed, AllocError
         site: None,
         engine: None,
     };
-    let ending = match lister.list(file) {
-        Ok(()) => Ending::Complete,
-        Err(Halt::Stopped(stop)) => Ending::Stopped(stop),
+    let stop = match lister.list(file) {
+        Ok(()) => None,
+        Err(Halt::Stopped(fault, offset)) => Some(fault.at(offset)),
         Err(Halt::Memory) => return Err(AllocError),
     };
     Ok(Listed {
         text: lister.page.text,
-        ending,
+        stop,
     })
 }

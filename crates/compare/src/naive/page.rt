@@ -1,32 +1,6 @@
 use crate::ending::Stop;
-use std::alloc::{AllocError, AllocFailed, Global};
-
-/// Why the naive scheduler does not go on.
-#[derive(Clone, Copy)]
-pub enum Halt {
-    Memory,
-    Stopped(Stop),
-}
-
-impl From<AllocError> for Halt {
-    fn from(_: AllocError) -> Halt {
-        Halt::Memory
-    }
-}
-
-impl<T: Drop> From<AllocFailed<T>> for Halt {
-    fn from(_: AllocFailed<T>) -> Halt {
-        Halt::Memory
-    }
-}
-
-pub fn stopped(refusal: u8, offset: usize) -> Halt {
-    Halt::Stopped(Stop {
-        refusal,
-        offset,
-        inner: None,
-    })
-}
+use crate::naive::fault::{Fault, Halt};
+use std::alloc::{AllocError, Global};
 
 /// The lines so far, and how many bytes they may have together.
 #[derive(Drop)]
@@ -46,7 +20,7 @@ impl Page {
     /// Writes a line of the record at this offset, whole or not at all.
     pub fn write(&mut self, offset: usize, line: &str) -> Result<(), Halt> {
         if self.text.len().saturating_add(line.len()) > self.room {
-            return Err(stopped(34, offset));
+            return Err(Halt::Stopped(Fault::NoRoom, offset));
         }
         self.text.extend_from_slice(line.as_bytes())?;
         Ok(())

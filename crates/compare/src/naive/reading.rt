@@ -1,3 +1,4 @@
+use crate::naive::fault::Fault;
 use dayfile::record::Record;
 
 /// A record, and how many bytes it has.
@@ -7,14 +8,8 @@ pub struct Reading {
     pub size: usize,
 }
 
-#[derive(Clone, Copy)]
-pub enum Unreadable {
-    UnknownKind,
-    CutShort,
-}
-
 /// The record at the front of the bytes.
-pub fn read(bytes: &[u8]) -> Result<Reading, Unreadable> {
+pub fn read(bytes: &[u8]) -> Result<Reading, Fault> {
     let (record, size) = match bytes {
         [1, count, ..] => (Record::Nodes { count: *count }, 2),
         [2, from, to, ..] => (
@@ -58,8 +53,8 @@ pub fn read(bytes: &[u8]) -> Result<Reading, Unreadable> {
             },
             3,
         ),
-        [] | [1..=7, ..] => return Err(Unreadable::CutShort),
-        _ => return Err(Unreadable::UnknownKind),
+        [] | [1..=7, ..] => return Err(Fault::CutShort),
+        _ => return Err(Fault::UnknownKind),
     };
     Ok(Reading { record, size })
 }

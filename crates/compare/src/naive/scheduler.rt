@@ -1,10 +1,11 @@
 use crate::naive::steps::Plan;
-use crate::naive::table::{MOST_QUERIES, Phase, Query, first_late, longest_wait};
-use std::alloc::{AllocError, Global};
+use crate::naive::table::{MOST_QUERIES, Phase, Query, Ranked};
+use std::alloc::{AllocFailed, Global};
 
 /// The highest number that a query may get.
 const MOST_NUMBERS: u32 = 1_000_000;
 
+// As the product has it too, from which nothing is taken here but records.
 /// The longest period.
 const MOST_PERIOD: u64 = 60_000;
 
@@ -32,6 +33,19 @@ impl Refusal {
             Refusal::Early => 26,
             Refusal::Waiting => 27,
         }
+    }
+}
+
+/// Why a query was not taken in.
+#[derive(Clone, Copy)]
+pub enum Failure {
+    Memory,
+    Refused(Refusal),
+}
+
+impl<T: Drop> From<AllocFailed<T>> for Failure {
+    fn from(_: AllocFailed<T>) -> Failure {
+        Failure::Memory
     }
 }
 
@@ -74,15 +88,15 @@ impl Engine {
         priority: u8,
         period: u64,
         deadline: u64,
-    ) -> Result<Result<Accepted, Refusal>, AllocError> {
+    ) -> Result<Accepted, Failure> {
         if deadline < 1 || deadline > period || period > MOST_PERIOD {
-            return Ok(Err(Refusal::Terms));
+            return Err(Failure::Refused(Refusal::Terms));
         }
         if self.next_number > MOST_NUMBERS {
-            return Ok(Err(Refusal::Numbers));
+            return Err(Failure::Refused(Refusal::Numbers));
         }
         if self.queries.len() >= MOST_QUERIES {
-            return Ok(Err(Refusal::Full));
+            return Err(Failure::Refused(Refusal::Full));
         }
         self.try_query(Query {
             number: self.next_number,
@@ -94,43 +108,44 @@ impl Engine {
         })
     }
 
-    fn place_of(&self, query: &Query) -> usize {
-        let mut place = 0usize;
-        for other in self.queries.iter() {
-            if other.ranks_before(query) {
-                place = place.saturating_add(1);
-            }
+    fn ranked(&self) -> Ranked<'_> {
+        Ranked {
+            queries: self.queries.as_slice(),
+            plan: self.plan,
         }
-        place
+    }
+
+    fn place_of(&self, query: &Query) -> usize {
+        self.queries
+            .iter()
+            .filter(|other| other.ranks_before(query))
+            .count()
     }
 
     /// Enters the query, and takes it out again if some query would then be late.
-    fn try_query(&mut self, query: Query) -> Result<Result<Accepted, Refusal>, AllocError> {
+    fn try_query(&mut self, query: Query) -> Result<Accepted, Failure> {
         let place = self.place_of(&query);
         if place <= self.queries.len() {
             self.queries.insert(place, query)?;
         }
-        if let Some(late) = first_late(self.queries.as_slice(), self.plan) {
+        if let Some(late) = self.ranked().first_late() {
             if place < self.queries.len() {
                 let _ = self.queries.remove(place);
             }
-            return Ok(Err(Refusal::Late(late)));
+            return Err(Failure::Refused(Refusal::Late(late)));
         }
         self.next_number = self.next_number.saturating_add(1);
-        let wait = longest_wait(self.queries.as_slice(), &query, self.plan);
-        Ok(Ok(Accepted {
+        Ok(Accepted {
             number: query.number,
-            wait: wait.unwrap_or(0),
-        }))
+            wait: self.ranked().longest_wait(&query).unwrap_or(0),
+        })
     }
 
     fn open_query(&mut self, number: u32) -> Result<&mut Query, Refusal> {
-        for query in self.queries.iter_mut() {
-            if query.number == number && query.is_open() {
-                return Ok(query);
-            }
-        }
-        Err(Refusal::NotOpen)
+        self.queries
+            .iter_mut()
+            .find(|query| query.number == number && query.is_open())
+            .ok_or(Refusal::NotOpen)
     }
 
     pub fn release(&mut self, number: u32) -> Result<(), Refusal> {
@@ -158,41 +173,29 @@ impl Engine {
     }
 
     fn has_waiting_round(&self) -> bool {
-        for query in self.queries.iter() {
-            if query.has_waiting_round() {
-                return true;
-            }
-        }
-        false
+        self.queries.iter().any(|query| query.has_waiting_round())
     }
 
     fn remove_leaving(&mut self) {
-        for place in (0..self.queries.len()).rev() {
-            if place < self.queries.len() && self.queries[place].phase == Phase::Leaving {
-                let _ = self.queries.remove(place);
-            }
-        }
+        self.queries.retain(|query| query.phase != Phase::Leaving);
     }
 
     fn may_start(&self) -> bool {
-        match self.last_start {
-            None => true,
-            Some(last) => self.slot >= last.saturating_add(self.plan.distance),
-        }
+        self.last_start.is_none_or(|last| self.slot >= last.saturating_add(self.plan.distance))
     }
 
     /// Starts the first waiting round in rank order.
     fn start_first(&mut self) -> Option<u32> {
-        for query in self.queries.iter_mut() {
-            let after = match query.phase {
-                Phase::Waiting => Phase::Ready,
-                Phase::LeavingWaiting => Phase::Leaving,
-                _ => continue,
-            };
-            query.phase = after;
-            return Some(query.number);
-        }
-        None
+        let query = self
+            .queries
+            .iter_mut()
+            .find(|query| query.has_waiting_round())?;
+        query.phase = if query.is_open() {
+            Phase::Ready
+        } else {
+            Phase::Leaving
+        };
+        Some(query.number)
     }
 
     /// Runs one slot, and answers whose round starts in it.

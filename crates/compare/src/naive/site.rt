@@ -1,5 +1,7 @@
+use crate::naive::fault::SiteFault;
 use crate::survey::{Edge, Link};
 use std::alloc::Global;
+use std::iter::successors;
 
 /// A site as its file tells it, sound or not.
 #[derive(Drop)]
@@ -18,103 +20,66 @@ impl Site {
         }
     }
 
-    /// The number of the first refusal of the graph or the tree.
-    pub fn fault(&self) -> Option<u8> {
+    /// Refuses the first fault of the graph or the tree.
+    pub fn check(&self) -> Result<(), SiteFault> {
         if self.nodes < 1 || self.nodes > 64 {
-            return Some(11);
+            return Err(SiteFault::NodeCount);
         }
         if self.has_outer_edge() {
-            return Some(12);
+            return Err(SiteFault::OuterEdge);
         }
-        if self.tree.len().saturating_add(1) != self.nodes as usize {
-            return Some(1);
+        if self.tree.len().saturating_add(1) != usize::from(self.nodes) {
+            return Err(SiteFault::LinkCount);
         }
-        if self.has_bad_link() {
-            return Some(2);
+        if self.tree.iter().any(|link| self.is_bad(*link)) {
+            return Err(SiteFault::BadLink);
         }
-        if self.repeats_child() {
-            return Some(3);
+        if self.tree.iter().any(|link| self.links_of(link.child) > 1) {
+            return Err(SiteFault::RepeatedChild);
         }
-        if self.has_lost_child() { Some(4) } else { None }
+        if self
+            .tree
+            .iter()
+            .any(|link| self.depth(link.child).is_none())
+        {
+            return Err(SiteFault::LostChild);
+        }
+        Ok(())
     }
 
     fn has_outer_edge(&self) -> bool {
-        for edge in self.edges.iter() {
-            if edge.from >= self.nodes || edge.to >= self.nodes {
-                return true;
-            }
-        }
-        false
+        self.edges
+            .iter()
+            .any(|edge| edge.from >= self.nodes || edge.to >= self.nodes)
     }
 
-    fn has_bad_link(&self) -> bool {
-        for link in self.tree.iter() {
-            let outside = link.child >= self.nodes || link.parent >= self.nodes;
-            let slots = link.slots < 1 || link.slots > 4;
-            if outside || slots || link.child == 0 || link.child == link.parent {
-                return true;
-            }
-        }
-        false
+    fn is_bad(&self, link: Link) -> bool {
+        let outside = link.child >= self.nodes || link.parent >= self.nodes;
+        let slots = link.slots < 1 || link.slots > 4;
+        outside || slots || link.child == 0 || link.child == link.parent
     }
 
     fn links_of(&self, child: u8) -> usize {
-        let mut count = 0usize;
-        for link in self.tree.iter() {
-            if link.child == child {
-                count = count.saturating_add(1);
-            }
-        }
-        count
-    }
-
-    fn repeats_child(&self) -> bool {
-        for link in self.tree.iter() {
-            if self.links_of(link.child) > 1 {
-                return true;
-            }
-        }
-        false
-    }
-
-    fn has_lost_child(&self) -> bool {
-        for link in self.tree.iter() {
-            if self.depth(link.child).is_none() {
-                return true;
-            }
-        }
-        false
+        self.tree.iter().filter(|link| link.child == child).count()
     }
 
     /// The link by which the node transmits.
     pub fn link(&self, node: u8) -> Option<Link> {
-        for link in self.tree.iter() {
-            if link.child == node {
-                return Some(*link);
-            }
-        }
-        None
+        self.tree.iter().find(|link| link.child == node).copied()
     }
 
     /// The hops to the base station, if following parents comes there; no way has more hops than there are links.
     pub fn depth(&self, node: u8) -> Option<usize> {
-        let mut at = node;
-        for hops in 0..self.tree.len().saturating_add(1) {
-            if at == 0 {
-                return Some(hops);
-            }
-            at = self.link(at)?.parent;
-        }
-        None
+        let most = self.tree.len().saturating_add(1);
+        successors(Some(node), |at| self.link(*at).map(|link| link.parent))
+            .take(most)
+            .position(|at| at == 0)
     }
 
     fn hears(&self, from: u8, to: u8) -> bool {
-        for edge in self.edges.iter() {
-            if edge.from == from && edge.to == to {
-                return true;
-            }
-        }
-        false
+        self.edges
+            .iter()
+            .any(|edge| edge.from == from && edge.to == to)
     }
 
     /// Whether the transmissions of two links conflict.

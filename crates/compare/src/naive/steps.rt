@@ -53,42 +53,28 @@ fn ordered_links(heap: Global, site: &Site) -> Result<Vec<Link>, AllocError> {
 
 impl Draft<'_> {
     fn has_slots_left(&self) -> bool {
-        for link in self.left.iter() {
-            if link.slots > 0 {
-                return true;
-            }
-        }
-        false
+        self.left.iter().any(|link| link.slots > 0)
     }
 
     fn awaits_child(&self, node: u8) -> bool {
-        for link in self.left.iter() {
-            if link.parent == node && link.slots > 0 {
-                return true;
-            }
-        }
-        false
+        self.left
+            .iter()
+            .any(|link| link.parent == node && link.slots > 0)
     }
 
     /// The links that may transmit in the step that begins now.
     fn candidates(&self) -> Result<Vec<Link>, AllocError> {
-        let mut candidates = Vec::new(self.heap);
-        for link in self.left.iter() {
-            if link.slots > 0 && !self.awaits_child(link.child) {
-                candidates.push(*link)?;
-            }
-        }
-        Ok(candidates)
+        self.left
+            .iter()
+            .filter(|link| link.slots > 0 && !self.awaits_child(link.child))
+            .copied()
+            .collect(self.heap)
     }
 
     /// Whether the link conflicts with none that joined the present step.
     fn fits_step(&self, link: Link) -> bool {
-        for other in self.placed.iter() {
-            if other.step == self.steps && self.site.conflict(link, other.link) {
-                return false;
-            }
-        }
-        true
+        !self.placed.iter().any(|other| other.step == self.steps
+            && self.site.conflict(link, other.link))
     }
 
     fn join(&mut self, link: Link) -> Result<(), AllocError> {
@@ -127,33 +113,21 @@ impl Draft<'_> {
 
     /// Whether the transmission conflicts with one so many steps later or more.
     fn meets(&self, early: Placed, distance: usize) -> bool {
-        for late in self.placed.iter() {
-            if late.step >= early.step.saturating_add(distance)
+        self.placed.iter().any(|late| {
+            late.step >= early.step.saturating_add(distance)
                 && self.site.conflict(early.link, late.link)
-            {
-                return true;
-            }
-        }
-        false
+        })
     }
 
     fn is_distance(&self, distance: usize) -> bool {
-        for early in self.placed.iter() {
-            if self.meets(*early, distance) {
-                return false;
-            }
-        }
-        true
+        !self.placed.iter().any(|early| self.meets(*early, distance))
     }
 
     /// The minimum step distance. No two steps are as far apart as the plan is long.
     fn distance(&self) -> usize {
-        for distance in 1..self.steps {
-            if self.is_distance(distance) {
-                return distance;
-            }
-        }
-        self.steps.max(1)
+        (1..self.steps)
+            .find(|distance| self.is_distance(*distance))
+            .unwrap_or(self.steps.max(1))
     }
 }
 

@@ -25,56 +25,60 @@ pub struct Query {
 
 impl Query {
     pub fn ranks_before(&self, other: &Query) -> bool {
-        self.priority < other.priority
-            || self.priority == other.priority && self.number < other.number
+        (self.priority, self.number) < (other.priority, other.number)
     }
 
     pub fn has_waiting_round(&self) -> bool {
-        self.phase == Phase::Waiting || self.phase == Phase::LeavingWaiting
+        matches!(self.phase, Phase::Waiting | Phase::LeavingWaiting)
     }
 
     pub fn is_open(&self) -> bool {
-        self.phase == Phase::Ready || self.phase == Phase::Waiting
+        matches!(self.phase, Phase::Ready | Phase::Waiting)
     }
 }
 
-/// The rounds that may go before one of this query which waits for so many slots.
-fn rounds_before(queries: &[Query], query: &Query, wait: u64) -> u64 {
-    let mut rounds = 0u64;
-    for other in queries {
-        if other.ranks_before(query) {
-            let more = wait.checked_div(other.period).unwrap_or(0);
-            rounds = rounds.saturating_add(more).saturating_add(1);
-        }
-    }
-    rounds
+/// The queries that a plan runs, in rank order.
+#[derive(Clone, Copy)]
+pub struct Ranked<'a> {
+    pub queries: &'a [Query],
+    pub plan: Plan,
 }
 
-/// The longest wait of a query, if there is one up to its deadline; a longer one is too late anyhow.
-pub fn longest_wait(queries: &[Query], query: &Query, plan: Plan) -> Option<u64> {
-    for wait in 0..query.deadline.saturating_add(1) {
-        let rounds = rounds_before(queries, query, wait);
-        let busy = plan.distance.saturating_mul(rounds);
-        if wait == plan.distance.saturating_sub(1).saturating_add(busy) {
-            return Some(wait);
-        }
+impl Ranked<'_> {
+    /// The rounds that may go before one of this query which waits for so many slots.
+    fn rounds_before(self, query: &Query, wait: u64) -> u64 {
+        self.queries
+            .iter()
+            .filter(|other| other.ranks_before(query))
+            .map(|other| wait
+                .checked_div(other.period)
+                .unwrap_or(0)
+                .saturating_add(1))
+            .fold(0, |rounds, more| rounds.saturating_add(more))
     }
-    None
-}
 
-fn keeps_deadline(queries: &[Query], query: &Query, plan: Plan) -> bool {
-    match longest_wait(queries, query, plan) {
-        Some(wait) => wait.saturating_add(plan.length) <= query.deadline,
-        None => false,
+    /// Whether a round that waits so long has waited for all that may go before it.
+    fn waits_for_all(self, query: &Query, wait: u64) -> bool {
+        let distance = self.plan.distance;
+        let busy = distance.saturating_mul(self.rounds_before(query, wait));
+        wait == distance.saturating_sub(1).saturating_add(busy)
     }
-}
 
-/// The first of the queries, which stand in rank order, that would not keep its deadline.
-pub fn first_late(queries: &[Query], plan: Plan) -> Option<u32> {
-    for query in queries {
-        if !keeps_deadline(queries, query, plan) {
-            return Some(query.number);
-        }
+    /// The longest wait of a query, if there is one up to its deadline; a longer one is too late anyhow.
+    pub fn longest_wait(self, query: &Query) -> Option<u64> {
+        (0..query.deadline.saturating_add(1)).find(|wait| self.waits_for_all(query, *wait))
     }
-    None
+
+    fn keeps_deadline(self, query: &Query) -> bool {
+        self.longest_wait(query).is_some_and(|wait| wait.saturating_add(self.plan.length)
+            <= query.deadline)
+    }
+
+    /// The first of the queries that would not keep its deadline.
+    pub fn first_late(self) -> Option<u32> {
+        self.queries
+            .iter()
+            .find(|query| !self.keeps_deadline(query))
+            .map(|query| query.number)
+    }
 }

@@ -1,27 +1,20 @@
-use Rattle.std.proofs.Common.{◌+◌, ◌<◌, length, sym, arith, rules}
-use Rattle.std.proofs.lemmas.List.{nil_from_length}
-use Rattle.std.proofs.lemmas.Bool.{eqb-true}
-use Rattle.textfile.proofs.Packed.{packs_all, packs_none, packs_fault, packs_more}
+use Rattle.std.proofs.Common.{◌+◌, arith, rules}
+use Rattle.std.specs.Iterator.Adapters.{enumerate_source, enumerate_count}
+use Rattle.textfile.proofs.Packed.{packs_none, packs_fault, packs_more}
 use Rattle.textfile.proofs.packing.pack.Goals as goal
 
-pub returns-in-Err : goal.returns-in-Err
-returns-in-Err c =
-    let some : 0 < length c.loop-rest.rest.now = search rules in
-    let stops =
-    packs_fault c.args.text.now _ c.loop-rest.rest.now _ _ (c.loop-rest.number + 1) c.loop-rest.invariant.0 some c.next_line.ensures.line c.next_line.ensures.rest c.in-Err.fault c.in-Err.ensures
-    in
+pub returns-in_err-record : goal.returns-in_err-record
+returns-in_err-record c =
+    let s = c.in-Some.ensures.steps in
+    let stops = packs_fault c.args.text.now _ (enumerate_source c.loop-i.i-iterator).0.now _ _ (enumerate_count c.loop-i.i-iterator + 1) c.loop-i.invariant.2 s.0.2 s.0.0 s.0.1 in
     search rules
 
-pub loop-rest-preserved-in_ok-append-in-Ok-Some : goal.loop-rest-preserved-in_ok-append-in-Ok-Some
-loop-rest-preserved-in_ok-append-in-Ok-Some c =
-    let some : 0 < length c.loop-rest.rest.now = search rules in
-    (packs_more c.args.text.now _ c.loop-rest.rest.now _ _ (c.loop-rest.number + 1) c.loop-rest.invariant.0 some c.next_line.ensures.line c.next_line.ensures.rest c.in-Ok-Some.record _ (search rules) c.in_ok-append-in-Ok-Some.ensures, omega arith)
+pub loop-i-preserved-in_default : goal.loop-i-preserved-in_default
+loop-i-preserved-in_default c =
+    let s = c.in-Some.ensures.steps in
+    (search rules, search rules, rw s.2 (packs_none c.args.text.now _ (enumerate_source c.loop-i.i-iterator).0.now _ _ (enumerate_count c.loop-i.i-iterator + 1) c.loop-i.invariant.2 s.0.2 s.0.0 s.0.1 (search rules)), omega (arith, s.0.2, s.2, c.loop-i.invariant.3))
 
-pub loop-rest-preserved : goal.loop-rest-preserved
-loop-rest-preserved c =
-    let some : 0 < length c.loop-rest.rest.now = search rules in
-    (packs_none c.args.text.now _ c.loop-rest.rest.now _ _ (c.loop-rest.number + 1) c.loop-rest.invariant.0 some c.next_line.ensures.line c.next_line.ensures.rest (search rules), omega arith)
-
-pub returns : goal.returns
-returns c =
-    packs_all c.args.text.now _ c.loop-rest.rest.now _ c.loop-rest.invariant.0 (nil_from_length _ (eqb-true _ _ (sym c.loop-rest-test.ensures)))
+pub loop-i-preserved : goal.loop-i-preserved
+loop-i-preserved c =
+    let s = c.in-Some.ensures.steps in
+    (search rules, search rules, rw s.2 (packs_more c.args.text.now _ (enumerate_source c.loop-i.i-iterator).0.now _ _ (enumerate_count c.loop-i.i-iterator + 1) c.loop-i.invariant.2 s.0.2 s.0.0 s.0.1 c.in-Some-2.record _ (search rules) (search rules)), omega (arith, s.0.2, s.2, c.loop-i.invariant.3))

@@ -1,5 +1,4 @@
-use Rattle.std.proofs.Common.{Ok, Err, filter, ap}
-use Rattle.engine.specs.Bookings.{back_with}
+use Rattle.std.proofs.Common.{filter, ap}
 use Rattle.engine.specs.Engines.{view}
 use Rattle.engine.specs.Views.{rows_of}
 use Rattle.engine.proofs.Settles.{call_good, settled}
@@ -8,30 +7,9 @@ use Rattle.rules.specs.Rows.{other_than, row_of}
 use Rattle.rules.specs.Rules.{unless_booked, with_rows}
 use Rattle.rules.specs.declared.call.Call.TheVariants.{Withdraw}
 
-pub invariant_of-self : goal.invariant_of-self
-invariant_of-self c =
+pub invariant_of-self-clause-good : goal.invariant_of-self-clause-good
+invariant_of-self-clause-good c =
     let e = c.args.self.now in
     let n = c.args.booking.number in
-    let done = settled (view e) (unless_booked (row_of n (view e).rows)) c.withdraw.result (rows_of c.withdraw.new.self) (filter (other_than n) (view e).rows) c.withdraw.ensures in
-    record {
-      short = e.short;
-      spread = e.spread;
-      soon = e.soon;
-      numbered = e.numbered;
-      idle = e.idle;
-      good = call_good (view e) (with_rows (view e) (rows_of c.withdraw.new.self)) e.good (Withdraw n) (ap (λ p. p.1) done);
-    }
-
-pub returns-in-Ok : goal.returns-in-Ok
-returns-in-Ok c =
-    let e = c.args.self.now in
-    let n = c.args.booking.number in
-    ap (λ p. (back_with c.args.booking p.0, p.1))
-    (settled (view e) (unless_booked (row_of n (view e).rows)) (Ok c.in-Ok.field-0) (rows_of c.withdraw.new.self) (filter (other_than n) (view e).rows) c.in-Ok.ensures)
-
-pub returns-in-Err : goal.returns-in-Err
-returns-in-Err c =
-    let e = c.args.self.now in
-    let n = c.args.booking.number in
-    ap (λ p. (back_with c.args.booking p.0, p.1))
-    (settled (view e) (unless_booked (row_of n (view e).rows)) (Err c.in-Err.why) (rows_of c.withdraw.new.self) (filter (other_than n) (view e).rows) c.in-Err.ensures)
+    let done = settled (view e) (unless_booked (row_of n (view e).rows)) c.withdraw-outcome.result (rows_of c.withdraw-outcome.new.self) (filter (other_than n) (view e).rows) c.withdraw-outcome.ensures in
+    call_good (view e) (with_rows (view e) (rows_of c.withdraw-outcome.new.self)) e.good (Withdraw n) (ap (λ p. p.1) done)

@@ -1,8 +1,0 @@
-use Rattle.std.proofs.Common.{◌≡◌, length, drop}
-use Rattle.routing.specs.Tree.{by_node, entered}
-use Rattle.routing.proofs.tables.slot_table.Given as goal
-
--- what is left of the tree completes the table
-abbrev pub invariant-loop-link : goal.invariant-loop-link
-invariant-loop-link l =
-    (length l.table ≡ 64) × (entered (λ r. r.slots) (drop l.link-index l.tree) l.table ≡ by_node (λ r. r.slots) l.tree)
