@@ -15,7 +15,7 @@
  * Build: tools/build liblisting.a && cc -Ic program.c target/staticlib/liblisting.a
  *
  * Both calls keep no state, allocate nothing, call nothing of yours and always return. They may run in several threads
- * at once as long as nobody else uses the lists lent to them. Stack: about 64 KiB (seen on x86-64, not proved).
+ * at once as long as nobody else uses the lists lent to them. Stack: about 32 KiB (seen on x86-64, not proved).
  *
  * What a caller owes: a pointer is never null, not even with the length 0 (then a pointer to any byte will do); so many
  * bytes from it on, at most PTRDIFF_MAX, can be read, those of `out` written too; `file` and `out` do not overlap. What
