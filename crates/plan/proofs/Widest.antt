@@ -19,6 +19,18 @@ module _ (value : ℕ → ℕ) where
       let more : range_with_len 0 (n + 1) ≡ range_with_len 0 n ++ n ∷ [] = sym (map-id _) ∙ map-range_with_len_more (λ k. k) 0 n n (omega arith) ∙ ap (λ l. l ++ n ∷ []) (map-id _) in
       ap (fold (λ w k. max (value k) w) 0) (rw add-one at more) ∙ fold-append (λ w k. max (value k) w) 0 (range_with_len 0 n) (n ∷ []) ∙ ap (max (value n)) (most_folded n)
 
+  -- what is known already goes through the fold
+  fold_known : (xs : List ℕ) (a m : ℕ) → fold (λ w k. max (value k) w) (max a m) xs ≡ max (fold (λ w k. max (value k) w) a xs) m
+  fold_known [] a m = refl
+  fold_known (x ∷ xs) a m =
+      let moved : max (value x) (max a m) ≡ max (max (value x) a) m = omega arith in
+      ap (λ s. fold (λ w k. max (value k) w) s xs) moved ∙ fold_known xs (max (value x) a) m
+
+  pub most_from : (n m : ℕ) → fold (λ w k. max (value k) w) m (range_with_len 0 n) ≡ max (most_below value n) m
+  most_from n m =
+      let none : m ≡ max 0 m = omega arith in
+      ap (λ a. fold (λ w k. max (value k) w) a (range_with_len 0 n)) none ∙ fold_known (range_with_len 0 n) 0 m ∙ ap (λ w. max w m) (most_folded n)
+
   -- no value is greater, and the greatest is 0 or one of them
   pub most_bound : (n k : ℕ) → k < n → value k ≤ most_below value n
   unfolding most_below
@@ -46,9 +58,9 @@ module _ (conflict : Transmission → Transmission → Bool) (ts : List Transmis
   widest_gap = most_below (λ l. most_below (gap_of conflict ts step l) (length ts)) (length ts)
 
   -- the widest gap, as the code folds it
-  pub widest_folded : fold (λ most l. max (fold (λ w k. max (gap_of conflict ts step l k) w) 0 (range_with_len 0 (length ts))) most) 0 (range_with_len 0 (length ts)) ≡ widest_gap
+  pub widest_folded : fold (λ most l. fold (λ w k. max (gap_of conflict ts step l k) w) most (range_with_len 0 (length ts))) 0 (range_with_len 0 (length ts)) ≡ widest_gap
   widest_folded =
-      ap (λ (g : ℕ → ℕ). fold (λ most l. max (g l) most) 0 (range_with_len 0 (length ts))) (λ i l. most_folded (gap_of conflict ts step l) (length ts) i)
+      ap (λ (g : ℕ → ℕ → ℕ). fold (λ most l. g l most) 0 (range_with_len 0 (length ts))) (λ i l m. most_from (gap_of conflict ts step l) (length ts) m i)
       ∙ most_folded (λ l. most_below (gap_of conflict ts step l) (length ts)) (length ts)
 
   gap_is : (l k : ℕ) → step k < step l → conflict (transmission_at ts k) (transmission_at ts l) ≡ true

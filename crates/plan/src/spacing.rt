@@ -6,36 +6,37 @@ use crate::placed::Placed;
 use interference::model::Interference;
 
 impl<M: Interference> Placed<'_, M> {
-    /// By how many steps the transmission at l comes after the one at k, where they conflict; 0 where they do not, or
-    /// it does not come after.
-    fn gap(&self, k: usize, l: usize) -> u16
+    /// By how many steps the transmission at l comes after the one at k, where they conflict and no wider gap is known.
+    // The model is asked only where the answer could be wider.
+    fn wider(&self, widest: u16, k: usize, l: usize) -> u16
         requires { (k < length self.now.transmissions.now) × (l < length self.now.transmissions.now) }
-        ensures { result ≡ gap_of (M.conflict self.now.model.now) self.now.transmissions.now (λ i. slice_index self.now.steps i) l k }
+        ensures { result ≡ max (gap_of (M.conflict self.now.model.now) self.now.transmissions.now (λ i. slice_index self.now.steps i) l k) widest }
     {
-        if self.steps[k] < self.steps[l]
+        let apart = self.steps[l].saturating_sub(self.steps[k]);
+        if widest < apart
             && self
                 .model
                 .conflicts(self.transmissions[k], self.transmissions[l])
         {
-            self.steps[l] - self.steps[k]
+            apart
         } else {
-            0
+            widest
         }
     }
 
     // Folds and not `max`: the rule is the same recursion, and 0 where there is none.
-    /// The widest gap to the transmission at l.
-    fn widest_to(&self, l: usize) -> u16
+    /// The widest gap to the transmission at l, or the one known where that is wider.
+    fn widest_to(&self, known: u16, l: usize) -> u16
         requires { l < length self.now.transmissions.now }
-        ensures { result ≡ fold (λ widest k. max (gap_of (M.conflict self.now.model.now) self.now.transmissions.now (λ i. slice_index self.now.steps i) l k) widest) 0 (range_with_len 0 (length self.now.transmissions.now)) }
+        ensures { result ≡ fold (λ widest k. max (gap_of (M.conflict self.now.model.now) self.now.transmissions.now (λ i. slice_index self.now.steps i) l k) widest) known (range_with_len 0 (length self.now.transmissions.now)) }
     {
-        (0..self.transmissions.len()).fold(0, |widest, k| self.gap(k, l).max(widest))
+        (0..self.transmissions.len()).fold(known, |widest, k| self.wider(widest, k, l))
     }
 
     /// The widest gap between two transmissions that conflict.
     pub(crate) fn widest(&self) -> u16
-        ensures { result ≡ fold (λ most l. max (fold (λ widest k. max (gap_of (M.conflict self.now.model.now) self.now.transmissions.now (λ i. slice_index self.now.steps i) l k) widest) 0 (range_with_len 0 (length self.now.transmissions.now))) most) 0 (range_with_len 0 (length self.now.transmissions.now)) }
+        ensures { result ≡ fold (λ most l. fold (λ widest k. max (gap_of (M.conflict self.now.model.now) self.now.transmissions.now (λ i. slice_index self.now.steps i) l k) widest) most (range_with_len 0 (length self.now.transmissions.now))) 0 (range_with_len 0 (length self.now.transmissions.now)) }
     {
-        (0..self.transmissions.len()).fold(0, |most, l| self.widest_to(l).max(most))
+        (0..self.transmissions.len()).fold(0, |most, l| self.widest_to(most, l))
     }
 }
