@@ -1,3 +1,4 @@
+mod Ends
 pub mod Places
 pub mod Spaced
 pub mod Leads

@@ -7,6 +7,7 @@ mod Lateness
 mod Loads
 mod Means
 mod Numbers
+mod Ordered
 mod Places
 mod Rounds
 pub mod Promises

@@ -16,6 +16,10 @@ impl Rank for Waiting {
     ghost before = { sooner };
 
     ghost order = { Prim.search rules };
+
+    fn precedes(&self, other: &Waiting) -> bool {
+        self < other
+    }
 }
 
 impl Waiting {

@@ -46,6 +46,8 @@ impl<'a> Records<'a> {
     }
 
     /// The next record and those after it, if there is one.
+    // In line: what it answers, through memory, took a reader half its time.
+    #[inline(always)]
     pub(crate) fn next(&self) -> Result<Option<(Record, Records<'a>)>, Stop>
         ensures { Came self.now result }
     {

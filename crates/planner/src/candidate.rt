@@ -15,4 +15,8 @@ impl Rank for Candidate {
     ghost before = { deeper };
 
     ghost order = { Prim.search rules };
+
+    fn precedes(&self, other: &Candidate) -> bool {
+        self < other
+    }
 }

@@ -1,3 +1,4 @@
 mod Ends
+mod Places
 pub mod Ranked
 mod Sifts

@@ -1,11 +1,11 @@
 -- Laws of the order in which elements come out, for crates above. Assumes nothing.
-use Rattle.std.proofs.Common.{◌≡◌, ℕ, zero, suc, ◌+◌, ◌<◌, Bool, true, false, List, [], ◌∷◌, ◌++◌, length, get_or, set, sym, refl, ap, ◌∙◌, ⊎_elim, arith}
+use Rattle.std.proofs.Common.{◌≡◌, ℕ, zero, suc, ◌+◌, ◌-◌, ◌<◌, Bool, true, false, List, [], ◌∷◌, ◌++◌, length, get_or, take, set, sym, refl, ap, ◌∙◌, ⊎_elim, arith}
 use Rattle.std.specs.List.Sorted.{IsPermutation}
 use Rattle.std.specs.List.{swap}
 use Rattle.std.proofs.ByRecursion.{All-weaker, all_shuffled}
 use Rattle.std.proofs.lemmas.List.Sorted.{IsPermutation-refl, IsPermutation-cons, IsPermutation-swap, IsPermutation-sym, IsPermutation-to_front, IsPermutation-trans, IsPermutation-keeps, length_permutation}
 use Rattle.std.proofs.lemmas.Bool.{cases_Bool}
-use Rattle.queue.specs.Heap.{First}
+use Rattle.queue.specs.Heap.{Heap, First, Pushed, Popped}
 use Rattle.queue.specs.Order.{Order}
 use Rattle.queue.specs.Ranked.{placed, ranked, InOrder}
 
@@ -18,6 +18,12 @@ module _ {X : Type 0} (before : X → X → Bool) where
 
   placed_behind : (x y z : X) (zs : List X) → before x z ≡ false → before y z ≡ false → placed before x (placed before y (z ∷ zs)) ≡ z ∷ placed before x (placed before y zs)
   placed_behind x y z zs t s = ap (placed before x) (placed_after y z zs s) ∙ placed_after x z _ t
+
+  pub heap_none : (xs : List X) → Heap before (take 0 xs)
+  heap_none xs k d f = absurd (omega arith)
+
+  pub ranked_empty : ranked before [] ≡ []
+  ranked_empty = refl
 
   -- ---- the same elements
 
@@ -96,6 +102,9 @@ module _ {X : Type 0} (before : X → X → Bool) where
     pub pushed : (xs zs : List X) (x : X) → IsPermutation (xs ++ x ∷ []) zs → ranked before zs ≡ placed before x (ranked before xs)
     pushed xs zs x s = sym (ranked_shuffled _ _ (IsPermutation-trans _ _ _ (IsPermutation-sym _ _ (IsPermutation-to_front xs x)) s))
 
+    pub pushed_ranked : (x : X) (n : ℕ) (xs ys : List X) → Pushed before x n xs ys → ranked before (take (n + 1) ys) ≡ placed before x (ranked before (take n xs))
+    pushed_ranked x n xs ys p = sym (ranked_shuffled _ _ p.holds)
+
     -- what ranks first stands first
     pub placed_first : (x : X) (ys : List X) → First before x ys → placed before x ys ≡ x ∷ ys
     placed_first x [] f = refl
@@ -110,6 +119,11 @@ module _ {X : Type 0} (before : X → X → Bool) where
         let both : IsPermutation xs (x ∷ zs) = IsPermutation-trans _ _ _ s (IsPermutation-cons x _ _ t) in
         let left : First before x (ranked before zs) = all_shuffled (λ y. before y x ≡ false) _ _ (shuffled_ranked zs) (all_shuffled (λ y. before y x ≡ false) _ _ both f).1 in
         (ranked_shuffled _ _ both ∙ placed_first x _ left, left)
+
+    pub popped_ranked : (x : X) (n : ℕ) (xs ys : List X) → Heap before (take n xs) → Popped before x n xs ys → ranked before (take n xs) ≡ x ∷ ranked before (take (n - 1) ys)
+    popped_ranked x n xs ys h p =
+        let left = (all_shuffled (λ y. before y x ≡ false) _ _ p.holds (p.first h)).1 in
+        ranked_shuffled _ _ p.holds ∙ placed_first x _ (all_shuffled (λ y. before y x ≡ false) _ _ (shuffled_ranked (take (n - 1) ys)) left)
 
     -- ---- each element ranks first among those from it on
 

@@ -20,6 +20,10 @@ impl Rank for Waiting {
     ghost before = { sooner };
 
     ghost order = { Prim.search rules };
+
+    fn precedes(&self, other: &Waiting) -> bool {
+        self < other
+    }
 }
 
 /// May transmit next: the deeper node goes first, then the smaller one.
@@ -33,12 +37,16 @@ impl Rank for Candidate {
     ghost before = { deeper };
 
     ghost order = { Prim.search rules };
+
+    fn precedes(&self, other: &Candidate) -> bool {
+        self < other
+    }
 }
 
 #[cfg(test)]
 mod tests {
     use super::*;
-    use queue::{Full, Queue};
+    use queue::{Full, Queue, is_empty, pop, push};
     use std::test::Fail;
 
     fn waiting(priority: u8, number: u32) -> Waiting {
@@ -116,5 +124,58 @@ mod tests {
         assert_eq!(rt; queue.push(candidate(7, 1)), Err(Full));
         assert_eq!(rt; queue.pop(), None);
         assert!(rt; queue.is_empty());
+    }
+
+    #[test]
+    fn smallest_priority_then_number_comes_first_of_places(rt: HostRuntime) -> Result<(), Fail> {
+        let mut places = [waiting(0, 0); 4];
+        push(&mut places, 0, waiting(2, 1))?;
+        push(&mut places, 1, waiting(1, 7))?;
+        push(&mut places, 2, waiting(2, 0))?;
+        push(&mut places, 3, waiting(1, 5))?;
+        assert_eq!(rt; pop(&mut places, 4), Some(waiting(1, 5)));
+        assert_eq!(rt; pop(&mut places, 3), Some(waiting(1, 7)));
+        assert_eq!(rt; pop(&mut places, 2), Some(waiting(2, 0)));
+        assert_eq!(rt; pop(&mut places, 1), Some(waiting(2, 1)));
+        assert_eq!(rt; pop(&mut places, 0), None);
+        Ok(())
+    }
+
+    #[test]
+    fn deepest_then_smallest_node_comes_first_of_places(rt: HostRuntime) -> Result<(), Fail> {
+        let mut places = [candidate(0, 0); 6];
+        push(&mut places, 0, candidate(1, 4))?;
+        push(&mut places, 1, candidate(3, 9))?;
+        push(&mut places, 2, candidate(2, 2))?;
+        assert_eq!(rt; pop(&mut places, 3), Some(candidate(3, 9)));
+        push(&mut places, 2, candidate(2, 1))?;
+        push(&mut places, 3, candidate(1, 3))?;
+        assert_eq!(rt; pop(&mut places, 4), Some(candidate(2, 1)));
+        assert_eq!(rt; pop(&mut places, 3), Some(candidate(2, 2)));
+        assert_eq!(rt; pop(&mut places, 2), Some(candidate(1, 3)));
+        assert_eq!(rt; pop(&mut places, 1), Some(candidate(1, 4)));
+        Ok(())
+    }
+
+    #[test]
+    fn full_places_refuse_and_stay(rt: HostRuntime) -> Result<(), Fail> {
+        let mut places = [waiting(9, 9); 2];
+        push(&mut places, 0, waiting(5, 0))?;
+        push(&mut places, 1, waiting(6, 0))?;
+        assert_eq!(rt; push(&mut places, 2, waiting(1, 0)), Err(Full));
+        assert_eq!(rt; push(&mut places, 3, waiting(1, 0)), Err(Full));
+        assert_eq!(rt; places, [waiting(5, 0), waiting(6, 0)]);
+        Ok(())
+    }
+
+    #[test]
+    fn nothing_comes_out_of_places_of_no_queue(rt: HostRuntime) {
+        let mut places = [candidate(7, 1), candidate(6, 1)];
+        assert_eq!(rt; pop(&mut places, 0), None);
+        assert_eq!(rt; pop(&mut places, 3), None);
+        assert_eq!(rt; places, [candidate(7, 1), candidate(6, 1)]);
+        assert!(rt; is_empty(&places, 0));
+        assert!(rt; !is_empty(&places, 1));
+        assert!(rt; is_empty(&places[0..0], 5));
     }
 }

@@ -71,9 +71,13 @@ impl Site {
     /// The hops to the base station, if following parents comes there; no way has more hops than there are links.
     pub fn depth(&self, node: u8) -> Option<usize> {
         let most = self.tree.len().saturating_add(1);
-        successors(Some(node), |at| self.link(*at).map(|link| link.parent))
-            .take(most)
-            .position(|at| at == 0)
+        successors(Some(node), |at| match at {
+            // Nobody looks for what comes after the base station.
+            0 => None,
+            _ => self.link(*at).map(|link| link.parent),
+        })
+        .take(most)
+        .position(|at| at == 0)
     }
 
     fn hears(&self, from: u8, to: u8) -> bool {

@@ -46,10 +46,11 @@ pub struct Ranked<'a> {
 
 impl Ranked<'_> {
     /// The rounds that may go before one of this query which waits for so many slots.
+    // Those that rank before it stand before it: no other is looked at.
     fn rounds_before(self, query: &Query, wait: u64) -> u64 {
         self.queries
             .iter()
-            .filter(|other| other.ranks_before(query))
+            .take_while(|other| other.ranks_before(query))
             .map(|other| wait
                 .checked_div(other.period)
                 .unwrap_or(0)

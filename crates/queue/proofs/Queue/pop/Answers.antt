@@ -21,6 +21,6 @@ returns g c =
     let found = sym c.in_ok-first.ensures.value in
     let stands = sym (get_or_from_slice_get xs 0 c.in_ok-first.first c.in_ok-first.first found) in
     let out = IsPermutation-swap_remove xs 0 c.in_ok-first.first (slice_get_within xs 0 c.in_ok-first.first found) stands in
-    let first = ends.first g.T.Rank.before g.met.T.Rank.order.order xs c.in_ok-first.first stands c.self.invariant in
-    let came = laws.popped g.T.Rank.before g.met.T.Rank.order.order xs _ c.sift_down.new.places c.in_ok-first.first out (rw c.in_ok-first.ensures.items at (shuffled g c)) first in
+    let first = ends.first g.T.Rank.before g.met.T.Rank.order xs c.in_ok-first.first stands c.self.invariant in
+    let came = laws.popped g.T.Rank.before g.met.T.Rank.order xs _ c.sift_down.new.places c.in_ok-first.first out (rw c.in_ok-first.ensures.items at (shuffled g c)) first in
     (rw (ends.refilled _ _ (shuffled g c)) (sym c.self.view_is ∙ came.0), rw (ends.refilled _ _ (shuffled g c)) came.1)

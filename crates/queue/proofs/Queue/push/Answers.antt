@@ -22,5 +22,5 @@ invariant_of-self g c =
 pub returns : goal.returns
 returns g c =
     let long = ap length (sym c.self.view_is) ∙ laws.length-ranked g.T.Rank.before c.self.inside.places.items in
-    let went = laws.pushed g.T.Rank.before g.met.T.Rank.order.order c.self.inside.places.items c.sift_up.new.places c.args.x (rw c.push.ensures.items at (shuffled g c)) in
+    let went = laws.pushed g.T.Rank.before g.met.T.Rank.order c.self.inside.places.items c.sift_up.new.places c.args.x (rw c.push.ensures.items at (shuffled g c)) in
     (omega (arith, long, c.len-last.ensures.value, c.len-last.ensures.fits, c.if-last.false), rw (ends.refilled _ _ (shuffled g c)) (rw c.self.view_is at went))
